@@ -1,0 +1,5 @@
+pub mod Signs
+pub mod Cells
+pub mod ByKind
+pub mod ByNumber
+pub mod RoundTrip

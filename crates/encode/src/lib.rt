@@ -1,0 +1,545 @@
+// The fixed kinds, as encode.rs has them: a type for each with its width, its default, encode and decode. A value is
+// carried as an i64. An encoded item is passed whole, as eight bytes of which the unused ones are 0.
+ghost use mathlib.Core.Path.{_≡_};
+ghost use Prim.Native.Nat.{_+_, _*_, _<_, _^_};
+ghost use mir.Syntax.{w16, w32, w64};
+ghost use mir.Val.{ofZ, toZ};
+ghost use lib.Signed.{mag};
+ghost use lib.ListN.{take};
+ghost use Rattle.encode.specs.Bytes.{low-first, high-first, little, big, inEight, numberOf};
+ghost use Rattle.encode.specs.Kinds.{widthOf, defaultValue, encoded, decoded, takes as taken, kindOf};
+
+// The kinds of fixed width: bool, i16, i32, i64, Date, Timestamp, TimestampTz and Interval.
+pub enum Primitive {
+    Bool,
+    I16,
+    I32,
+    I64,
+    Date,
+    Timestamp,
+    TimestampTz,
+    Interval,
+}
+
+// Every kind. A char has a width of 1 to 255.
+pub enum Kind {
+    Fixed(Primitive),
+    Char(u8),
+    Blob,
+}
+
+// What a kind's number and a width name.
+pub enum FoundKind {
+    Known(Kind),
+    Unknown,
+}
+
+// ---- signed numbers and their bits
+
+// n where v is n or -(n + 1): v lies in a signed width if this lies below half the width's power.
+pub fn mag_of(v: i64) -> u64
+    ensures { λ r. ⌜ r ≡ mag v ⌝ }
+{
+    if v >= 0 { v as u64 } else { (!v) as u64 }
+}
+
+// The two's complement of v.
+pub fn bits_of(v: i64) -> u64
+    ensures { λ r. ⌜ r ≡ ofZ w64 v ⌝ }
+{
+    if v >= 0 {
+        v as u64
+    } else {
+        0xffff_ffff_ffff_ffff - ((!v) as u64)
+    }
+}
+
+// The number whose two's complement of 64 bits is u; of 32; of 16.
+pub fn of_bits(u: u64) -> i64
+    ensures { λ r. ⌜ r ≡ toZ w64 u ⌝ }
+{
+    if u < 0x8000_0000_0000_0000 {
+        u as i64
+    } else {
+        !((0xffff_ffff_ffff_ffff - u) as i64)
+    }
+}
+
+pub fn of_bits32(u: u64) -> i64
+    requires { ⌜ u < 2 ^ 32 ⌝ }
+    ensures { λ r. ⌜ r ≡ toZ w32 u ⌝ }
+{
+    if u < 0x8000_0000 {
+        u as i64
+    } else {
+        !((0xffff_ffff - u) as i64)
+    }
+}
+
+pub fn of_bits16(u: u64) -> i64
+    requires { ⌜ u < 2 ^ 16 ⌝ }
+    ensures { λ r. ⌜ r ≡ toZ w16 u ⌝ }
+{
+    if u < 0x8000 {
+        u as i64
+    } else {
+        !((0xffff - u) as i64)
+    }
+}
+
+// ---- numbers and their bytes
+
+// The bytes of u, lowest first. Each step divides once more, so that the compiler sees one store.
+pub fn low_first(u: u64) -> [u8; 8]
+    ensures { λ r. ⌜ r ≡ little 8 u ⌝ }
+{
+    let a = u / 256;
+    let b = a / 256;
+    let c = b / 256;
+    let d = c / 256;
+    let e = d / 256;
+    let f = e / 256;
+    let g = f / 256;
+    [
+        (u % 256) as u8,
+        (a % 256) as u8,
+        (b % 256) as u8,
+        (c % 256) as u8,
+        (d % 256) as u8,
+        (e % 256) as u8,
+        (f % 256) as u8,
+        (g % 256) as u8,
+    ]
+}
+
+// The bytes of u, highest first.
+pub fn high_first(u: u64) -> [u8; 8]
+    ensures { λ r. ⌜ r ≡ big 8 u ⌝ }
+{
+    let x = low_first(u);
+    [x[7], x[6], x[5], x[4], x[3], x[2], x[1], x[0]]
+}
+
+// The lowest byte of u, and zeros; two bytes; four; four highest first.
+pub fn low_first1(u: u64) -> [u8; 8]
+    ensures { λ r. ⌜ r ≡ inEight (little 1 u) ⌝ }
+{
+    [(u % 256) as u8, 0, 0, 0, 0, 0, 0, 0]
+}
+
+pub fn low_first2(u: u64) -> [u8; 8]
+    ensures { λ r. ⌜ r ≡ inEight (little 2 u) ⌝ }
+{
+    let a = u / 256;
+    [(u % 256) as u8, (a % 256) as u8, 0, 0, 0, 0, 0, 0]
+}
+
+pub fn low_first4(u: u64) -> [u8; 8]
+    ensures { λ r. ⌜ r ≡ inEight (little 4 u) ⌝ }
+{
+    let a = u / 256;
+    let b = a / 256;
+    let c = b / 256;
+    [
+        (u % 256) as u8,
+        (a % 256) as u8,
+        (b % 256) as u8,
+        (c % 256) as u8,
+        0,
+        0,
+        0,
+        0,
+    ]
+}
+
+pub fn high_first4(u: u64) -> [u8; 8]
+    ensures { λ r. ⌜ r ≡ inEight (big 4 u) ⌝ }
+{
+    let a = u / 256;
+    let b = a / 256;
+    let c = b / 256;
+    [
+        (c % 256) as u8,
+        (b % 256) as u8,
+        (a % 256) as u8,
+        (u % 256) as u8,
+        0,
+        0,
+        0,
+        0,
+    ]
+}
+
+// The number of two bytes, lowest first; of four.
+pub fn pair(a: u8, b: u8) -> u64
+    ensures { λ r. ⌜ (r ≡ a + 256 * b) × (r < 2 ^ 16) ⌝ }
+{
+    (a as u64) + 256 * (b as u64)
+}
+
+pub fn quad(a: u8, b: u8, c: u8, d: u8) -> u64
+    ensures { λ r. ⌜ (r ≡ a + 256 * (b + 256 * (c + 256 * d))) × (r < 2 ^ 32) ⌝ }
+{
+    (a as u64) + 256 * ((b as u64) + 256 * ((c as u64) + 256 * (d as u64)))
+}
+
+// The number of an item's first two bytes, lowest first; of four; of eight.
+pub fn low2(item: [u8; 8]) -> u64
+    ensures { λ r. ⌜ (r ≡ numberOf low-first (take 2 item)) × (r < 2 ^ 16) ⌝ }
+{
+    pair(item[0], item[1])
+}
+
+pub fn low4(item: [u8; 8]) -> u64
+    ensures { λ r. ⌜ (r ≡ numberOf low-first (take 4 item)) × (r < 2 ^ 32) ⌝ }
+{
+    quad(item[0], item[1], item[2], item[3])
+}
+
+pub fn low8(item: [u8; 8]) -> u64
+    ensures { λ r. ⌜ r ≡ numberOf low-first (take 8 item) ⌝ }
+{
+    quad(item[0], item[1], item[2], item[3])
+        + 0x1_0000_0000 * quad(item[4], item[5], item[6], item[7])
+}
+
+// The same, highest first.
+pub fn high4(item: [u8; 8]) -> u64
+    ensures { λ r. ⌜ (r ≡ numberOf high-first (take 4 item)) × (r < 2 ^ 32) ⌝ }
+{
+    quad(item[3], item[2], item[1], item[0])
+}
+
+pub fn high8(item: [u8; 8]) -> u64
+    ensures { λ r. ⌜ r ≡ numberOf high-first (take 8 item) ⌝ }
+{
+    quad(item[7], item[6], item[5], item[4])
+        + 0x1_0000_0000 * quad(item[3], item[2], item[1], item[0])
+}
+
+// ---- the kinds as types
+
+// bool: one byte, 0 or 1; any nonzero byte reads as true.
+pub struct BoolKind {}
+
+impl BoolKind {
+    pub const WIDTH: usize = 1;
+
+    pub const DEFAULT_VALUE: i64 = 0;
+
+    pub fn encode(v: i64) -> [u8; 8]
+        ensures { λ r. ⌜ r ≡ inEight (encoded Primitive.Bool v) ⌝ }
+    {
+        low_first1(bits_of(v))
+    }
+
+    pub fn decode(item: [u8; 8]) -> i64
+        ensures { λ r. ⌜ r ≡ decoded Primitive.Bool (take 1 item) ⌝ }
+    {
+        if item[0] == 0 { 0 } else { 1 }
+    }
+
+    pub fn takes(v: i64) -> bool
+        ensures { λ r. ⌜ r ≡ taken Primitive.Bool v ⌝ }
+    {
+        bits_of(v) < 2
+    }
+}
+
+// i16, little-endian.
+pub struct I16Kind {}
+
+impl I16Kind {
+    pub const WIDTH: usize = 2;
+
+    pub const DEFAULT_VALUE: i64 = 0;
+
+    pub fn encode(v: i64) -> [u8; 8]
+        ensures { λ r. ⌜ r ≡ inEight (encoded Primitive.I16 v) ⌝ }
+    {
+        low_first2(bits_of(v))
+    }
+
+    pub fn decode(item: [u8; 8]) -> i64
+        ensures { λ r. ⌜ r ≡ decoded Primitive.I16 (take 2 item) ⌝ }
+    {
+        of_bits16(low2(item))
+    }
+
+    pub fn takes(v: i64) -> bool
+        ensures { λ r. ⌜ r ≡ taken Primitive.I16 v ⌝ }
+    {
+        mag_of(v) < 0x8000
+    }
+}
+
+// i32, little-endian.
+pub struct I32Kind {}
+
+impl I32Kind {
+    pub const WIDTH: usize = 4;
+
+    pub const DEFAULT_VALUE: i64 = 0;
+
+    pub fn encode(v: i64) -> [u8; 8]
+        ensures { λ r. ⌜ r ≡ inEight (encoded Primitive.I32 v) ⌝ }
+    {
+        low_first4(bits_of(v))
+    }
+
+    pub fn decode(item: [u8; 8]) -> i64
+        ensures { λ r. ⌜ r ≡ decoded Primitive.I32 (take 4 item) ⌝ }
+    {
+        of_bits32(low4(item))
+    }
+
+    pub fn takes(v: i64) -> bool
+        ensures { λ r. ⌜ r ≡ taken Primitive.I32 v ⌝ }
+    {
+        mag_of(v) < 0x8000_0000
+    }
+}
+
+// i64, little-endian.
+pub struct I64Kind {}
+
+impl I64Kind {
+    pub const WIDTH: usize = 8;
+
+    pub const DEFAULT_VALUE: i64 = 0;
+
+    pub fn encode(v: i64) -> [u8; 8]
+        ensures { λ r. ⌜ r ≡ inEight (encoded Primitive.I64 v) ⌝ }
+    {
+        low_first(bits_of(v))
+    }
+
+    pub fn decode(item: [u8; 8]) -> i64
+        ensures { λ r. ⌜ r ≡ decoded Primitive.I64 (take 8 item) ⌝ }
+    {
+        of_bits(low8(item))
+    }
+
+    pub fn takes(v: i64) -> bool
+        ensures { λ r. ⌜ r ≡ taken Primitive.I64 v ⌝ }
+    {
+        mag_of(v) < 0x8000_0000_0000_0000
+    }
+}
+
+// Days as an i32, big-endian.
+pub struct DateKind {}
+
+impl DateKind {
+    pub const WIDTH: usize = 4;
+
+    pub const DEFAULT_VALUE: i64 = 0;
+
+    pub fn encode(v: i64) -> [u8; 8]
+        ensures { λ r. ⌜ r ≡ inEight (encoded Primitive.Date v) ⌝ }
+    {
+        high_first4(bits_of(v))
+    }
+
+    pub fn decode(item: [u8; 8]) -> i64
+        ensures { λ r. ⌜ r ≡ decoded Primitive.Date (take 4 item) ⌝ }
+    {
+        of_bits32(high4(item))
+    }
+
+    pub fn takes(v: i64) -> bool
+        ensures { λ r. ⌜ r ≡ taken Primitive.Date v ⌝ }
+    {
+        mag_of(v) < 0x8000_0000
+    }
+}
+
+// Microseconds as an i64, big-endian.
+pub struct TimestampKind {}
+
+impl TimestampKind {
+    pub const WIDTH: usize = 8;
+
+    pub const DEFAULT_VALUE: i64 = 0;
+
+    pub fn encode(v: i64) -> [u8; 8]
+        ensures { λ r. ⌜ r ≡ inEight (encoded Primitive.Timestamp v) ⌝ }
+    {
+        high_first(bits_of(v))
+    }
+
+    pub fn decode(item: [u8; 8]) -> i64
+        ensures { λ r. ⌜ r ≡ decoded Primitive.Timestamp (take 8 item) ⌝ }
+    {
+        of_bits(high8(item))
+    }
+
+    pub fn takes(v: i64) -> bool
+        ensures { λ r. ⌜ r ≡ taken Primitive.Timestamp v ⌝ }
+    {
+        mag_of(v) < 0x8000_0000_0000_0000
+    }
+}
+
+// The same with a time zone.
+pub struct TimestampTzKind {}
+
+impl TimestampTzKind {
+    pub const WIDTH: usize = 8;
+
+    pub const DEFAULT_VALUE: i64 = 0;
+
+    pub fn encode(v: i64) -> [u8; 8]
+        ensures { λ r. ⌜ r ≡ inEight (encoded Primitive.TimestampTz v) ⌝ }
+    {
+        high_first(bits_of(v))
+    }
+
+    pub fn decode(item: [u8; 8]) -> i64
+        ensures { λ r. ⌜ r ≡ decoded Primitive.TimestampTz (take 8 item) ⌝ }
+    {
+        of_bits(high8(item))
+    }
+
+    pub fn takes(v: i64) -> bool
+        ensures { λ r. ⌜ r ≡ taken Primitive.TimestampTz v ⌝ }
+    {
+        mag_of(v) < 0x8000_0000_0000_0000
+    }
+}
+
+// Months, then days, each an i32, big-endian; carried as months times 2^32 plus days modulo 2^32.
+pub struct IntervalKind {}
+
+impl IntervalKind {
+    pub const WIDTH: usize = 8;
+
+    pub const DEFAULT_VALUE: i64 = 0;
+
+    pub fn encode(v: i64) -> [u8; 8]
+        ensures { λ r. ⌜ r ≡ inEight (encoded Primitive.Interval v) ⌝ }
+    {
+        high_first(bits_of(v))
+    }
+
+    pub fn decode(item: [u8; 8]) -> i64
+        ensures { λ r. ⌜ r ≡ decoded Primitive.Interval (take 8 item) ⌝ }
+    {
+        of_bits(high8(item))
+    }
+
+    pub fn takes(v: i64) -> bool
+        ensures { λ r. ⌜ r ≡ taken Primitive.Interval v ⌝ }
+    {
+        mag_of(v) < 0x8000_0000_0000_0000
+    }
+}
+
+// The kind's own function, looked up.
+impl Primitive {
+    pub fn width(self) -> usize
+        ensures { λ r. ⌜ r ≡ widthOf self ⌝ }
+    {
+        match self {
+            Primitive::Bool => BoolKind::WIDTH,
+            Primitive::I16 => I16Kind::WIDTH,
+            Primitive::I32 => I32Kind::WIDTH,
+            Primitive::I64 => I64Kind::WIDTH,
+            Primitive::Date => DateKind::WIDTH,
+            Primitive::Timestamp => TimestampKind::WIDTH,
+            Primitive::TimestampTz => TimestampTzKind::WIDTH,
+            Primitive::Interval => IntervalKind::WIDTH,
+        }
+    }
+
+    // What a plain block stores for a null.
+    pub fn default_value(self) -> i64
+        ensures { λ r. ⌜ r ≡ defaultValue ⌝ }
+    {
+        match self {
+            Primitive::Bool => BoolKind::DEFAULT_VALUE,
+            Primitive::I16 => I16Kind::DEFAULT_VALUE,
+            Primitive::I32 => I32Kind::DEFAULT_VALUE,
+            Primitive::I64 => I64Kind::DEFAULT_VALUE,
+            Primitive::Date => DateKind::DEFAULT_VALUE,
+            Primitive::Timestamp => TimestampKind::DEFAULT_VALUE,
+            Primitive::TimestampTz => TimestampTzKind::DEFAULT_VALUE,
+            Primitive::Interval => IntervalKind::DEFAULT_VALUE,
+        }
+    }
+
+    pub fn encode(self, v: i64) -> [u8; 8]
+        ensures { λ r. ⌜ r ≡ inEight (encoded self v) ⌝ }
+    {
+        match self {
+            Primitive::Bool => BoolKind::encode(v),
+            Primitive::I16 => I16Kind::encode(v),
+            Primitive::I32 => I32Kind::encode(v),
+            Primitive::I64 => I64Kind::encode(v),
+            Primitive::Date => DateKind::encode(v),
+            Primitive::Timestamp => TimestampKind::encode(v),
+            Primitive::TimestampTz => TimestampTzKind::encode(v),
+            Primitive::Interval => IntervalKind::encode(v),
+        }
+    }
+
+    pub fn decode(self, item: [u8; 8]) -> i64
+        ensures { λ r. ⌜ r ≡ decoded self (take (widthOf self) item) ⌝ }
+    {
+        match self {
+            Primitive::Bool => BoolKind::decode(item),
+            Primitive::I16 => I16Kind::decode(item),
+            Primitive::I32 => I32Kind::decode(item),
+            Primitive::I64 => I64Kind::decode(item),
+            Primitive::Date => DateKind::decode(item),
+            Primitive::Timestamp => TimestampKind::decode(item),
+            Primitive::TimestampTz => TimestampTzKind::decode(item),
+            Primitive::Interval => IntervalKind::decode(item),
+        }
+    }
+
+    pub fn takes(self, v: i64) -> bool
+        ensures { λ r. ⌜ r ≡ taken self v ⌝ }
+    {
+        match self {
+            Primitive::Bool => BoolKind::takes(v),
+            Primitive::I16 => I16Kind::takes(v),
+            Primitive::I32 => I32Kind::takes(v),
+            Primitive::I64 => I64Kind::takes(v),
+            Primitive::Date => DateKind::takes(v),
+            Primitive::Timestamp => TimestampKind::takes(v),
+            Primitive::TimestampTz => TimestampTzKind::takes(v),
+            Primitive::Interval => IntervalKind::takes(v),
+        }
+    }
+}
+
+// The kind of a number and a width. The width is 0 for every kind but char.
+pub fn kind_of(kind: usize, width: usize) -> FoundKind
+    ensures { λ r. ⌜ r ≡ kindOf kind width ⌝ }
+{
+    if kind == 8 {
+        if width == 0 {
+            return FoundKind::Unknown;
+        }
+        if 255 < width {
+            return FoundKind::Unknown;
+        }
+        return FoundKind::Known(Kind::Char(width as u8));
+    }
+    if width != 0 {
+        return FoundKind::Unknown;
+    }
+    match kind {
+        0 => FoundKind::Known(Kind::Fixed(Primitive::Bool)),
+        1 => FoundKind::Known(Kind::Fixed(Primitive::I16)),
+        2 => FoundKind::Known(Kind::Fixed(Primitive::I32)),
+        3 => FoundKind::Known(Kind::Fixed(Primitive::I64)),
+        4 => FoundKind::Known(Kind::Fixed(Primitive::Date)),
+        5 => FoundKind::Known(Kind::Fixed(Primitive::Timestamp)),
+        6 => FoundKind::Known(Kind::Fixed(Primitive::TimestampTz)),
+        7 => FoundKind::Known(Kind::Fixed(Primitive::Interval)),
+        9 => FoundKind::Known(Kind::Blob),
+        _ => FoundKind::Unknown,
+    }
+}

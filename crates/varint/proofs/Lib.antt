@@ -1,0 +1,7 @@
+pub mod Order
+pub mod Reading
+pub mod Spelling
+pub mod Writing
+pub mod Within
+pub mod RoundTrip
+pub mod Shortest
