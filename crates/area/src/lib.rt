@@ -1,6 +1,9 @@
 // Small steps on bytes and lent areas that every crate above uses, each with a contract of its own.
 ghost use mathlib.Core.Path.{_≡_};
-ghost use Prim.Native.Nat.{_<_, min};
+ghost use Prim.Native.Nat.{_+_, _*_, _<_, _≤_, _^_, min};
+ghost use lib.ListN.{length, take, drop, replicate};
+ghost use lib.Seq.{sets};
+ghost use Rattle.area.specs.Area.{repeats, climbs};
 
 // A byte as a wider number. Its bound comes with it, so that no caller proves the cast again.
 pub fn wide(x: u8) -> u32
@@ -14,4 +17,71 @@ pub fn least(a: usize, b: usize) -> usize
     ensures { λ r. ⌜ r ≡ min a b ⌝ }
 {
     if a < b { a } else { b }
+}
+
+// `x` at `n` places from `at` on; the same of bytes.
+pub fn fill_values(dst: &mut [i64], at: usize, n: usize, x: i64)
+    requires { ⌜ at + n ≤ length (now dst) ⌝ }
+    ensures { λ _. ⌜ now (dst .exit) ≡ sets (now (dst .entry)) at (replicate n x) ⌝ }
+{
+    let end = at + n;
+    let mut i = at;
+    while i < end {
+        dst[i] = x;
+        i += 1;
+    }
+}
+
+pub fn fill_bytes(dst: &mut [u8], at: usize, n: usize, x: u8)
+    requires { ⌜ at + n ≤ length (now dst) ⌝ }
+    ensures { λ _. ⌜ now (dst .exit) ≡ sets (now (dst .entry)) at (replicate n x) ⌝ }
+{
+    let stop = at + n;
+    let mut i = at;
+    while i < stop {
+        dst[i] = x;
+        i += 1;
+    }
+}
+
+// The `n` bytes of `src` from `from` on, at `at`.
+pub fn copy(src: &[u8], from: usize, n: usize, dst: &mut [u8], at: usize)
+    requires { ⌜ (from + n ≤ length (now src)) × (at + n ≤ length (now dst)) ⌝ }
+    ensures { λ _. ⌜ now (dst .exit) ≡ sets (now (dst .entry)) at (take n (drop from (now (src .entry)))) ⌝ }
+{
+    let mut i = 0;
+    while i < n {
+        dst[at + i] = src[from + i];
+        i += 1;
+    }
+}
+
+// The same, `times` times one after the other.
+pub fn copies(src: &[u8], from: usize, n: usize, dst: &mut [u8], at: usize, times: usize)
+    requires { ⌜ (from + n ≤ length (now src)) × (at + times * n ≤ length (now dst)) ⌝ }
+    ensures { λ _. ⌜ now (dst .exit) ≡ sets (now (dst .entry)) at (repeats times (take n (drop from (now (src .entry))))) ⌝ }
+{
+    let mut left = times;
+    let mut to = at;
+    while 0 < left {
+        copy(src, from, n, dst, to);
+        to += n;
+        left -= 1;
+    }
+}
+
+// Ends that climb by `step` from `start` on.
+pub fn climb(dst: &mut [u32], at: usize, n: usize, start: u32, step: u32)
+    requires { ⌜ (at + n ≤ length (now dst)) × (start + n * step < 2 ^ 32) ⌝ }
+    ensures { λ _. ⌜ now (dst .exit) ≡ sets (now (dst .entry)) at (climbs n start step) ⌝ }
+{
+    let mut left = n;
+    let mut i = at;
+    let mut end = start;
+    while 0 < left {
+        end += step;
+        dst[i] = end;
+        i += 1;
+        left -= 1;
+    }
 }

@@ -1,0 +1,2 @@
+pub mod Nullable
+pub mod Blanks

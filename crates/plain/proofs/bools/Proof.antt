@@ -1,0 +1,42 @@
+-- `bools` meets its contract: the law of the loop that stores, at bool. Assumes nothing.
+use Prim.Native.Nat.{_-_}
+use native.Mathlib.Omega.{arith}
+use borrow.Author.Needs.{needs}
+use Rattle.encode.specs.declared.Primitive.the-variants.{Bool as Boolean}
+use Rattle.plain.proofs.Items.{Storing, storing-start, storing-item, storing-step, storing-end}
+use Rattle.plain.proofs.bools.Statement.{statement}
+use Rattle.plain.proofs.bools.Tie as tie
+
+abbrev Inv-loop : tie.InvT-loop
+Inv-loop s from n out₀ at₀ i₀ out at i = Storing Boolean s from n out₀ out at i
+
+abbrev μ-loop : tie.MeasureT-loop
+μ-loop s from n out₀ at₀ i₀ out at i = n - i
+
+loop-holds : tie.Need-loop-holds Inv-loop μ-loop
+loop-holds c = storing-start Boolean _ _ _ _ _ (omega arith)
+
+item1-requires : tie.Need-item1-requires Inv-loop μ-loop
+item1-requires c κs = storing-item (c .before .loop .inv) (c .loop-test .taken) (c .before .before .before .pre .1)
+
+loop-again : tie.Need-loop-again Inv-loop μ-loop
+loop-again c =
+    storing-step (c .before .before .before .loop .inv) (omega arith) (c .before .before .before .before .before .pre .1)
+    (c .before .item1 .ensures) (c .decode .ensures) (search needs)
+
+same-length : tie.Need-same-length Inv-loop μ-loop
+same-length c = c .before .loop .inv .room
+
+returns : tie.Need-returns Inv-loop μ-loop
+returns c = storing-end (c .before .loop .inv) (omega arith)
+
+pub bools-spec : {M : Type 1} → statement M
+bools-spec =
+    tie.close
+    (tie.spec Inv-loop μ-loop
+    loop-holds
+    item1-requires
+    (λ c κs. search needs) (λ c. search needs) (λ c. search needs) (λ c. search needs) (λ c. search needs) (λ c. search needs)
+    loop-again
+    same-length
+    returns)

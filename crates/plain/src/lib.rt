@@ -1,0 +1,311 @@
+// Plain blocks of every kind: reading.
+use encode::{BoolKind, DateKind, I16Kind, I32Kind, I64Kind, IntervalKind, Kind, Primitive, TimestampKind, TimestampTzKind};
+ghost use mathlib.Core.Path.{_≡_};
+ghost use mathlib.Core.Bool.{true};
+ghost use mathlib.Core.List.{map};
+ghost use Prim.Native.Nat.{_+_, _*_, _<_, _≤_, _^_};
+ghost use lib.ListN.{length, take, drop};
+ghost use lib.Seq.{sets};
+ghost use Rattle.encode.specs.Bytes.{number, inEight};
+ghost use Rattle.encode.specs.Kinds.{widthOf};
+ghost use Rattle.plain.specs.Rows.{bytesIn};
+ghost use Rattle.plain.specs.Plain.{places, fixedAt, plainRow, plainNumber, leastBytes, endsGood, endAt, startAt, charAt};
+
+// ---- numbers and items at a place
+
+// The number of the four bytes at `at`, lowest first.
+pub fn u32_at(s: &[u8], at: usize) -> usize
+    requires { ⌜ at + 4 ≤ length (now s) ⌝ }
+    ensures { λ r. ⌜ (r ≡ number (take 4 (drop at (now (s .entry))))) × (r < 2 ^ 32) ⌝ }
+{
+    encode::quad(s[at], s[at + 1], s[at + 2], s[at + 3]) as usize
+}
+
+// The item of one byte at `at`; of two; of four; of eight.
+pub fn item1(s: &[u8], at: usize) -> [u8; 8]
+    requires { ⌜ at + 1 ≤ length (now s) ⌝ }
+    ensures { λ r. ⌜ r ≡ inEight (take 1 (drop at (now (s .entry)))) ⌝ }
+{
+    [s[at], 0, 0, 0, 0, 0, 0, 0]
+}
+
+pub fn item2(s: &[u8], at: usize) -> [u8; 8]
+    requires { ⌜ at + 2 ≤ length (now s) ⌝ }
+    ensures { λ r. ⌜ r ≡ inEight (take 2 (drop at (now (s .entry)))) ⌝ }
+{
+    [s[at], s[at + 1], 0, 0, 0, 0, 0, 0]
+}
+
+pub fn item4(s: &[u8], at: usize) -> [u8; 8]
+    requires { ⌜ at + 4 ≤ length (now s) ⌝ }
+    ensures { λ r. ⌜ r ≡ inEight (take 4 (drop at (now (s .entry)))) ⌝ }
+{
+    [s[at], s[at + 1], s[at + 2], s[at + 3], 0, 0, 0, 0]
+}
+
+pub fn item8(s: &[u8], at: usize) -> [u8; 8]
+    requires { ⌜ at + 8 ≤ length (now s) ⌝ }
+    ensures { λ r. ⌜ r ≡ inEight (take 8 (drop at (now (s .entry)))) ⌝ }
+{
+    [
+        s[at],
+        s[at + 1],
+        s[at + 2],
+        s[at + 3],
+        s[at + 4],
+        s[at + 5],
+        s[at + 6],
+        s[at + 7],
+    ]
+}
+
+// ---- fixed kinds
+
+// The value of item `i`.
+pub fn value_at(p: Primitive, s: &[u8], i: usize) -> i64
+    requires { ⌜ (i < 1048576) × (i * widthOf p + widthOf p ≤ length (now s)) ⌝ }
+    ensures { λ r. ⌜ r ≡ fixedAt p (now (s .entry)) i ⌝ }
+{
+    match p {
+        Primitive::Bool => BoolKind::decode(item1(s, i)),
+        Primitive::I16 => I16Kind::decode(item2(s, i * 2)),
+        Primitive::I32 => I32Kind::decode(item4(s, i * 4)),
+        Primitive::I64 => I64Kind::decode(item8(s, i * 8)),
+        Primitive::Date => DateKind::decode(item4(s, i * 4)),
+        Primitive::Timestamp => TimestampKind::decode(item8(s, i * 8)),
+        Primitive::TimestampTz => TimestampTzKind::decode(item8(s, i * 8)),
+        Primitive::Interval => IntervalKind::decode(item8(s, i * 8)),
+    }
+}
+
+// The values of the `n` items from `from` on, a loop for each layout, so that no loop asks for the kind.
+fn bools(s: &[u8], from: usize, n: usize, out: &mut [i64])
+    requires { ⌜ (from + n ≤ 1048576) × (from * 1 + n * 1 ≤ length (now s)) × (n ≤ length (now out)) ⌝ }
+    ensures { λ _. ⌜ now (out .exit) ≡ sets (now (out .entry)) 0 (map (fixedAt Primitive.Bool (now (s .entry))) (places n from)) ⌝ }
+{
+    let mut at = from;
+    let mut i = 0;
+    while i < n {
+        out[i] = BoolKind::decode(item1(s, at));
+        at += 1;
+        i += 1;
+    }
+}
+
+fn i16s(s: &[u8], from: usize, n: usize, out: &mut [i64])
+    requires { ⌜ (from + n ≤ 1048576) × (from * 2 + n * 2 ≤ length (now s)) × (n ≤ length (now out)) ⌝ }
+    ensures { λ _. ⌜ now (out .exit) ≡ sets (now (out .entry)) 0 (map (fixedAt Primitive.I16 (now (s .entry))) (places n from)) ⌝ }
+{
+    let mut at = from * 2;
+    let mut i = 0;
+    while i < n {
+        out[i] = I16Kind::decode(item2(s, at));
+        at += 2;
+        i += 1;
+    }
+}
+
+fn i32s(s: &[u8], from: usize, n: usize, out: &mut [i64])
+    requires { ⌜ (from + n ≤ 1048576) × (from * 4 + n * 4 ≤ length (now s)) × (n ≤ length (now out)) ⌝ }
+    ensures { λ _. ⌜ now (out .exit) ≡ sets (now (out .entry)) 0 (map (fixedAt Primitive.I32 (now (s .entry))) (places n from)) ⌝ }
+{
+    let mut at = from * 4;
+    let mut i = 0;
+    while i < n {
+        out[i] = I32Kind::decode(item4(s, at));
+        at += 4;
+        i += 1;
+    }
+}
+
+fn i64s(s: &[u8], from: usize, n: usize, out: &mut [i64])
+    requires { ⌜ (from + n ≤ 1048576) × (from * 8 + n * 8 ≤ length (now s)) × (n ≤ length (now out)) ⌝ }
+    ensures { λ _. ⌜ now (out .exit) ≡ sets (now (out .entry)) 0 (map (fixedAt Primitive.I64 (now (s .entry))) (places n from)) ⌝ }
+{
+    let mut at = from * 8;
+    let mut i = 0;
+    while i < n {
+        out[i] = I64Kind::decode(item8(s, at));
+        at += 8;
+        i += 1;
+    }
+}
+
+fn dates(s: &[u8], from: usize, n: usize, out: &mut [i64])
+    requires { ⌜ (from + n ≤ 1048576) × (from * 4 + n * 4 ≤ length (now s)) × (n ≤ length (now out)) ⌝ }
+    ensures { λ _. ⌜ now (out .exit) ≡ sets (now (out .entry)) 0 (map (fixedAt Primitive.Date (now (s .entry))) (places n from)) ⌝ }
+{
+    let mut at = from * 4;
+    let mut i = 0;
+    while i < n {
+        out[i] = DateKind::decode(item4(s, at));
+        at += 4;
+        i += 1;
+    }
+}
+
+fn timestamps(s: &[u8], from: usize, n: usize, out: &mut [i64])
+    requires { ⌜ (from + n ≤ 1048576) × (from * 8 + n * 8 ≤ length (now s)) × (n ≤ length (now out)) ⌝ }
+    ensures { λ _. ⌜ now (out .exit) ≡ sets (now (out .entry)) 0 (map (fixedAt Primitive.Timestamp (now (s .entry))) (places n from)) ⌝ }
+{
+    let mut at = from * 8;
+    let mut i = 0;
+    while i < n {
+        out[i] = TimestampKind::decode(item8(s, at));
+        at += 8;
+        i += 1;
+    }
+}
+
+// The values of the `n` items from `from` on.
+pub fn values(p: Primitive, s: &[u8], from: usize, n: usize, out: &mut [i64])
+    requires { ⌜ (from + n ≤ 1048576) × (from * widthOf p + n * widthOf p ≤ length (now s)) × (n ≤ length (now out)) ⌝ }
+    ensures { λ _. ⌜ now (out .exit) ≡ sets (now (out .entry)) 0 (map (fixedAt p (now (s .entry))) (places n from)) ⌝ }
+{
+    match p {
+        Primitive::Bool => bools(s, from, n, out),
+        Primitive::I16 => i16s(s, from, n, out),
+        Primitive::I32 => i32s(s, from, n, out),
+        Primitive::I64 => i64s(s, from, n, out),
+        Primitive::Date => dates(s, from, n, out),
+        Primitive::Timestamp | Primitive::TimestampTz | Primitive::Interval => {
+            timestamps(s, from, n, out)
+        }
+    }
+}
+
+// ---- char and blob
+
+// Where blob item `i` starts in the data, and where it ends.
+pub fn start_at(s: &[u8], i: usize) -> usize
+    requires { ⌜ (i < 1048576) × (4 * i ≤ length (now s)) ⌝ }
+    ensures { λ r. ⌜ (r ≡ startAt (now (s .entry)) i) × (r < 2 ^ 32) ⌝ }
+{
+    if i == 0 {
+        return 0;
+    }
+    u32_at(s, 4 * (i - 1))
+}
+
+pub fn end_at(s: &[u8], i: usize) -> usize
+    requires { ⌜ (i < 1048576) × (4 * i + 4 ≤ length (now s)) ⌝ }
+    ensures { λ r. ⌜ (r ≡ endAt (now (s .entry)) i) × (r < 2 ^ 32) ⌝ }
+{
+    u32_at(s, 4 * i)
+}
+
+// The length of char item `i`, cut at its first NUL.
+fn char_len(s: &[u8], i: usize, w: usize) -> usize
+    requires { ⌜ (i < 1048576) × (w < 256) × (i * w + w ≤ length (now s)) ⌝ }
+    ensures { λ r. ⌜ (r ≡ length (charAt w (now (s .entry)) i)) × (r ≤ w) ⌝ }
+{
+    let at = i * w;
+    let mut n = 0;
+    while n < w {
+        if s[at + n] == 0 {
+            return n;
+        }
+        n += 1;
+    }
+    n
+}
+
+// Where the bytes of an item lie in the block, and how many there are.
+pub struct Range {
+    pub from: usize,
+    pub len: usize,
+}
+
+// The bytes of item `i` of `n`; none for a fixed kind.
+pub fn range_at(kind: Kind, n: usize, s: &[u8], i: usize) -> Range
+    requires { ⌜ (i < n) × (n ≤ 1048576) × (leastBytes kind n ≤ length (now s)) × (endsGood kind n (now s) i ≡ true) ⌝ }
+    ensures { λ r. ⌜ (r .from + r .len ≤ length (now (s .entry))) × (take (r .len) (drop (r .from) (now (s .entry))) ≡ bytesIn (plainRow kind n (now (s .entry)) i)) ⌝ }
+{
+    match kind {
+        Kind::Fixed(_) => Range { from: 0, len: 0 },
+        Kind::Char(w) => {
+            let width = w as usize;
+            Range {
+                from: i * width,
+                len: char_len(s, i, width),
+            }
+        }
+        Kind::Blob => {
+            let from = start_at(s, i);
+            Range {
+                from: 4 * n + from,
+                len: end_at(s, i) - from,
+            }
+        }
+    }
+}
+
+// Whether rule 14 holds of item `i` of `n`.
+pub fn good_at(kind: Kind, n: usize, s: &[u8], i: usize) -> bool
+    requires { ⌜ (i < n) × (n ≤ 1048576) × (leastBytes kind n ≤ length (now s)) ⌝ }
+    ensures { λ r. ⌜ r ≡ endsGood kind n (now (s .entry)) i ⌝ }
+{
+    let Kind::Blob = kind else {
+        return true;
+    };
+    let from = start_at(s, i);
+    let to = end_at(s, i);
+    if to < from {
+        return false;
+    }
+    to <= s.len() - 4 * n
+}
+
+// ---- opening
+
+// Whether `n` ends never fall and never pass the data, and the last one is the data's length: 0, 14 or 11.
+fn check_ends(n: usize, s: &[u8]) -> u8
+    requires { ⌜ (n ≤ 1048576) × (4 * n ≤ length (now s)) ⌝ }
+    ensures { λ r. ⌜ r ≡ plainNumber Kind.Blob n (now (s .entry)) ⌝ }
+{
+    let data = s.len() - 4 * n;
+    let mut last = 0;
+    let mut i = 0;
+    while i < n {
+        let end = u32_at(s, 4 * i);
+        if end < last {
+            return 14;
+        }
+        if data < end {
+            return 14;
+        }
+        last = end;
+        i += 1;
+    }
+    if last == data { 0 } else { 11 }
+}
+
+// The number that the plain rules give for `n` items.
+pub fn check(kind: Kind, n: usize, s: &[u8]) -> u8
+    requires { ⌜ n ≤ 1048576 ⌝ }
+    ensures { λ r. ⌜ r ≡ plainNumber kind n (now (s .entry)) ⌝ }
+{
+    match kind {
+        Kind::Fixed(p) => {
+            if s.len() == n * p.width() {
+                0
+            } else {
+                11
+            }
+        }
+        Kind::Char(w) => {
+            if s.len() == n * (w as usize) {
+                0
+            } else {
+                11
+            }
+        }
+        Kind::Blob => {
+            if s.len() < 4 * n {
+                10
+            } else {
+                check_ends(n, s)
+            }
+        }
+    }
+}

@@ -1,0 +1,9 @@
+pub mod Laws
+pub mod OneRun
+pub mod Folds
+pub mod Looking
+pub mod Advancing
+pub mod Pieces
+pub mod Walking
+pub mod Opening
+pub mod Whole

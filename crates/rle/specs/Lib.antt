@@ -1,0 +1,3 @@
+pub mod RunLength
+pub mod Stepping
+pub mod Pieces

@@ -1,0 +1,404 @@
+"""A second reading of document 01, in Python, made apart from the definitions under crates/*/specs.
+
+It builds blocks, opens them and reads them row by row, for every kind and encoding. tools/answers.py makes the stored
+answers of the programs in the gate with it.
+"""
+
+FIXED = {0: (1, "little"), 1: (2, "little"), 2: (4, "little"), 3: (8, "little"),
+         4: (4, "big"), 5: (8, "big"), 6: (8, "big"), 7: (8, "big")}
+CHAR, BLOB = 8, 9
+NULL_KEY = -2**31
+MOST_RUN = 2**32 - 1
+
+
+def known(kind, encoding, width):
+    if encoding > 4:
+        return False
+    if kind == CHAR:
+        return 1 <= width <= 255
+    return kind in (*FIXED, BLOB) and width == 0
+
+
+# ---- building
+
+def spell(v):
+    out = bytearray()
+    while v >= 128:
+        out.append(v & 127 | 128)
+        v >>= 7
+    out.append(v)
+    return bytes(out)
+
+
+def item(kind, width, row):
+    if kind in FIXED:
+        size, order = FIXED[kind]
+        return int(row or 0).to_bytes(size, order, signed=True)
+    data = row or b""
+    return data.ljust(width, b"\0") if kind == CHAR else data
+
+
+def plain(kind, width, rows):
+    items = [item(kind, width, r) for r in rows]
+    data = b"".join(items)
+    if kind != BLOB:
+        return data
+    ends, at = b"", 0
+    for i in items:
+        at += len(i)
+        ends += at.to_bytes(4, "little")
+    return ends + data
+
+
+def nullable(kind, width, rows):
+    bitmap = bytearray((len(rows) + 7) // 8)
+    for i, r in enumerate(rows):
+        if r is not None:
+            bitmap[i // 8] |= 1 << i % 8
+    return plain(kind, width, rows) + bytes(bitmap) + len(bitmap).to_bytes(4, "little")
+
+
+def runs_of(rows):
+    runs = []
+    for r in rows:
+        if runs and runs[-1][0] == r and (runs[-1][0] is None) == (r is None) and runs[-1][1] < MOST_RUN:
+            runs[-1][1] += 1
+        else:
+            runs.append([r, 1])
+    return runs
+
+
+def run_length(inner, rows):
+    runs = runs_of(rows)
+    if not runs:
+        return b""
+    counts = b"".join(spell(n) for _, n in runs)
+    return (len(runs).to_bytes(4, "little") + len(counts).to_bytes(4, "little") + counts
+            + inner([r for r, _ in runs]))
+
+
+def dictionary(kind, width, rows):
+    entries = []
+    for r in rows:
+        if r is not None and r not in entries:
+            entries.append(r)
+    keys = [NULL_KEY if r is None else NULL_KEY + 1 + entries.index(r) for r in rows]
+    block = run_length(lambda ks: plain(2, 0, ks), keys)
+    return len(block).to_bytes(8, "big") + len(entries).to_bytes(4, "big") + block + plain(kind, width, entries)
+
+
+def build(kind, encoding, width, rows):
+    if encoding == 0:
+        return plain(kind, width, rows)
+    if encoding == 1:
+        return nullable(kind, width, rows)
+    if encoding == 2:
+        return run_length(lambda rs: plain(kind, width, rs), rows)
+    if encoding == 3:
+        return run_length(lambda rs: nullable(kind, width, rs), rows)
+    return dictionary(kind, width, rows)
+
+
+# ---- opening
+
+class Refused(Exception):
+    def __init__(self, number):
+        self.number = number
+
+
+def le(b):
+    return int.from_bytes(b, "little")
+
+
+def size_of(kind, width):
+    return FIXED[kind][0] if kind in FIXED else width
+
+
+def check_plain(kind, width, n, b):
+    if kind != BLOB:
+        if len(b) != n * size_of(kind, width):
+            raise Refused(11)
+        return
+    if len(b) < 4 * n:
+        raise Refused(10)
+    data, last = len(b) - 4 * n, 0
+    for i in range(n):
+        end = le(b[4 * i:4 * i + 4])
+        if end < last or end > data:
+            raise Refused(14)
+        last = end
+    if last != data:
+        raise Refused(11)
+
+
+def check_nullable(kind, width, n, b):
+    if len(b) < 4:
+        raise Refused(10)
+    bitmap = (n + 7) // 8
+    if le(b[-4:]) != bitmap:
+        raise Refused(11)
+    if len(b) < bitmap + 4:
+        raise Refused(10)
+    check_plain(kind, width, n, b[:len(b) - bitmap - 4])
+
+
+def count_at(s, at):
+    """The number and the length of the count at a place, or None."""
+    value = 0
+    for k in range(5):
+        if at + k >= len(s):
+            return None
+        byte = s[at + k]
+        value |= (byte & 127) << 7 * k
+        if byte < 128:
+            return (value, k + 1) if value < 2**32 else None
+    return None
+
+
+def check_runs(inner, n, b):
+    """The runs and the length of the counts."""
+    if not b:
+        if n:
+            raise Refused(16)
+        return 0, 0
+    if len(b) < 8:
+        raise Refused(10)
+    runs, counts = le(b[:4]), le(b[4:8])
+    if runs > 1048576:
+        raise Refused(3)
+    if runs == 0:
+        raise Refused(13)
+    if 8 + counts > len(b):
+        raise Refused(10)
+    s, at, total = b[8:8 + counts], 0, 0
+    for _ in range(runs):
+        if at == len(s):
+            raise Refused(13)
+        found = count_at(s, at)
+        if found is None:
+            raise Refused(12)
+        if found[0] == 0:
+            raise Refused(13)
+        total += found[0]
+        at += found[1]
+    if at != len(s):
+        raise Refused(13)
+    if total != n:
+        raise Refused(16)
+    inner(runs, b[8 + counts:])
+    return runs, counts
+
+
+class Reader:
+    FIELDS = "kind encoding width rows len runs counts keys entries place run at taken".split()
+
+    def __init__(self, **fields):
+        for f in self.FIELDS:
+            setattr(self, f, fields.get(f, 0))
+
+    def copy(self, **fields):
+        return Reader(**{f: fields.get(f, getattr(self, f)) for f in self.FIELDS})
+
+    def fields(self):
+        return [getattr(self, f) for f in self.FIELDS]
+
+
+def open_block(kind, encoding, width, n, b):
+    if not known(kind, encoding, width):
+        raise Refused(1)
+    if len(b) > 16777216 or n > 2**48 - 1 or (encoding < 2 and n > 1048576):
+        raise Refused(3)
+    runs = counts = keys = entries = 0
+    if encoding == 0:
+        check_plain(kind, width, n, b)
+    elif encoding == 1:
+        check_nullable(kind, width, n, b)
+    elif encoding in (2, 3):
+        check = check_plain if encoding == 2 else check_nullable
+        runs, counts = check_runs(lambda m, s: check(kind, width, m, s), n, b)
+    else:
+        if len(b) < 12:
+            raise Refused(10)
+        keys, entries = int.from_bytes(b[:8], "big"), int.from_bytes(b[8:12], "big")
+        if entries > 65536:
+            raise Refused(3)
+        if 12 + keys > len(b):
+            raise Refused(10)
+        block = b[12:12 + keys]
+        runs, counts = check_runs(lambda m, s: check_plain(2, 0, m, s), n, block)
+        for i in range(runs):
+            key = int.from_bytes(block[8 + counts + 4 * i:12 + counts + 4 * i], "little", signed=True)
+            if key != NULL_KEY and key - NULL_KEY > entries:
+                raise Refused(15)
+        check_plain(kind, width, entries, b[12 + keys:])
+    return Reader(kind=kind, encoding=encoding, width=width, rows=n, len=len(b), runs=runs, counts=counts, keys=keys,
+                  entries=entries)
+
+
+# ---- reading
+
+def least(kind, width, n):
+    return 4 * n if kind == BLOB else n * size_of(kind, width)
+
+
+def contradicts(r):
+    if not known(r.kind, r.encoding, r.width):
+        return True
+    if r.len > 16777216 or r.rows > 2**48 - 1 or (r.encoding < 2 and r.rows > 1048576) or r.place > r.rows:
+        return True
+    if r.encoding >= 2 and (r.runs > 1048576 or r.run > r.runs):
+        return True
+    if r.encoding == 4 and r.entries > 65536:
+        return True
+    bitmap = lambda n: (n + 7) // 8 + 4
+    parts = not (r.runs == 0 and r.counts == 0)
+    if r.encoding == 0:
+        return least(r.kind, r.width, r.rows) > r.len
+    if r.encoding == 1:
+        return least(r.kind, r.width, r.rows) + bitmap(r.rows) > r.len
+    if r.encoding == 2:
+        return parts and 8 + r.counts + least(r.kind, r.width, r.runs) > r.len
+    if r.encoding == 3:
+        return parts and 8 + r.counts + least(r.kind, r.width, r.runs) + bitmap(r.runs) > r.len
+    return (12 + r.keys + least(r.kind, r.width, r.entries) > r.len
+            or parts and 8 + r.counts + 4 * r.runs > r.keys)
+
+
+def step(r, counts):
+    """The run of the next row and the place after it."""
+    def count(run, at):
+        return count_at(counts, at) if run < r.runs else None
+    run, at, taken = r.run, r.at, r.taken
+    found = count(run, at)
+    if found and found[0] > 0 and found[0] == taken:
+        run, at, taken = run + 1, at + found[1], 0
+        found = count(run, at)
+    if found is None or found[0] <= taken:
+        raise Refused(9)
+    here, taken = run, taken + 1
+    if taken == found[0]:
+        run, at, taken = run + 1, at + found[1], 0
+    return here, r.copy(place=r.place + 1, run=run, at=at, taken=taken)
+
+
+def counts_of(r, b):
+    block = b[12:12 + r.keys] if r.encoding == 4 else b
+    return block[8:8 + r.counts]
+
+
+def advance(r, b, n):
+    """The places of the next n rows, and the reader after them."""
+    if r.encoding < 2:
+        return list(range(r.place, r.place + n)), r.copy(place=r.place + n)
+    places, counts = [], counts_of(r, b)
+    for _ in range(n):
+        here, r = step(r, counts)
+        places.append(here)
+    return places, r
+
+
+def pass_over(r, b, n):
+    """The reader n rows later, whole runs at a time."""
+    if r.encoding < 2:
+        return r.copy(place=r.place + n)
+    counts = counts_of(r, b)
+    while n:
+        _, after = step(r, counts)
+        whole = count_at(counts, after.at if after.run == r.run else r.at) if after.taken else None
+        if whole and n - 1 > whole[0] - after.taken:
+            rest = whole[0] - after.taken
+            r = after.copy(place=after.place + rest, run=after.run + 1, at=after.at + whole[1], taken=0)
+            n -= 1 + rest
+        elif whole:
+            more = n - 1
+            r = after.copy(place=after.place + more, taken=after.taken + more)
+            if r.taken == whole[0]:
+                r = r.copy(run=r.run + 1, at=r.at + whole[1], taken=0)
+            n = 0
+        else:
+            r, n = after, n - 1
+    return r
+
+
+def plain_row(kind, width, n, b, i):
+    if kind in FIXED:
+        size, order = FIXED[kind]
+        value = int.from_bytes(b[i * size:i * size + size], order, signed=kind != 0)
+        return int(value != 0) if kind == 0 else value
+    if kind == CHAR:
+        return b[i * width:i * width + width].split(b"\0")[0]
+    start = le(b[4 * i - 4:4 * i]) if i else 0
+    end = le(b[4 * i:4 * i + 4])
+    if start > end or end > len(b) - 4 * n:
+        raise Refused(9)
+    return b[4 * n + start:4 * n + end]
+
+
+def row_at(r, b, i):
+    if r.encoding in (2, 3, 4):
+        n = r.runs
+        inner = b[8 + r.counts:]
+    else:
+        n, inner = r.rows, b
+    if r.encoding == 4:
+        keys = b[12:12 + r.keys][8 + r.counts:]
+        slot = int.from_bytes(keys[4 * i:4 * i + 4], "little", signed=True) - NULL_KEY
+        if slot == 0:
+            return None
+        if slot > r.entries:
+            raise Refused(9)
+        return plain_row(r.kind, r.width, r.entries, b[12 + r.keys:], slot - 1)
+    if r.encoding in (0, 2):
+        return plain_row(r.kind, r.width, n, inner, i)
+    bitmap = (n + 7) // 8
+    items = inner[:len(inner) - bitmap - 4]
+    row = plain_row(r.kind, r.width, n, items, i)
+    return row if inner[len(items) + i // 8] >> i % 8 & 1 else None
+
+
+def skip(r, b, n):
+    if contradicts(r) or len(b) != r.len:
+        raise Refused(9)
+    if n > r.rows - r.place:
+        raise Refused(7)
+    return pass_over(r, b, n)
+
+
+def remaining(r):
+    if contradicts(r):
+        raise Refused(9)
+    return r.rows - r.place
+
+
+def batch(r, b, size, values, flags, ends, data):
+    """Rows and bytes given and the reader after them; the areas (lists) are changed in place."""
+    if size == 0:
+        raise Refused(6)
+    if contradicts(r) or len(b) != r.len:
+        raise Refused(9)
+    places, after = advance(r, b, min(size, r.rows - r.place))
+    cache = {}
+    rows = []
+    for i in places:
+        if i not in cache:
+            cache[i] = row_at(r, b, i)
+        rows.append(cache[i])
+    n = len(rows)
+    if n > len(flags):
+        raise Refused(4)
+    total = 0
+    if r.kind in FIXED:
+        if n > len(values):
+            raise Refused(4)
+        values[:n] = [x or 0 for x in rows]
+    else:
+        total = sum(len(x or b"") for x in rows)
+        if n > len(ends) or total > len(data) or total > 2**32 - 1:
+            raise Refused(4)
+        at = 0
+        for i, x in enumerate(rows):
+            data[at:at + len(x or b"")] = x or b""
+            at += len(x or b"")
+            ends[i] = at
+    flags[:n] = [int(x is not None) for x in rows]
+    return n, total, after
