@@ -87,13 +87,13 @@ keysNumber entries b = 15 if not (known entries (innerPart (countsLength b) b) (
 unfoldable pub dictionaryNumber : Kind → ℕ → List ℕ → ℕ
 dictionaryNumber k n b =
     firstOf (
-      10 if ltb (length b) 12
-      ∷ 3 if ltb 65536 (entriesIn b)
-      ∷ 10 if ltb (length b) (12 + keyLength b)
-      ∷ runLengthNumber (plainNumber i32) n (keyPart (keyLength b) b)
-      ∷ keysNumber (entriesIn b) (keyPart (keyLength b) b)
-      ∷ plainNumber k (entriesIn b) (entriesPart (keyLength b) b)
-      ∷ [])
+    10 if ltb (length b) 12
+    ∷ 3 if ltb 65536 (entriesIn b)
+    ∷ 10 if ltb (length b) (12 + keyLength b)
+    ∷ runLengthNumber (plainNumber i32) n (keyPart (keyLength b) b)
+    ∷ keysNumber (entriesIn b) (keyPart (keyLength b) b)
+    ∷ plainNumber k (entriesIn b) (entriesPart (keyLength b) b)
+    ∷ [])
 
 -- ---- the rows: the entry that a key names
 unfoldable pub entryRow : Kind → ℕ → List ℕ → ℕ → Row

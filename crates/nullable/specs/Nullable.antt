@@ -50,11 +50,11 @@ trailerOf b = number (drop (length b - 4) b)
 unfoldable pub nullableNumber : Kind → ℕ → List ℕ → ℕ
 nullableNumber k n b =
     firstOf (
-      10 if ltb (length b) 4
-      ∷ 11 if not (eqb (trailerOf b) (bitmapLength n))
-      ∷ 10 if ltb (length b) (bitmapLength n + 4)
-      ∷ plainNumber k n (plainPart n b)
-      ∷ [])
+    10 if ltb (length b) 4
+    ∷ 11 if not (eqb (trailerOf b) (bitmapLength n))
+    ∷ 10 if ltb (length b) (bitmapLength n + 4)
+    ∷ plainNumber k n (plainPart n b)
+    ∷ [])
 
 -- ---- the rows
 unfoldable pub bitAt : List ℕ → ℕ → ℕ

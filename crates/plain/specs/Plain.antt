@@ -69,10 +69,10 @@ plainNumber (Fixed p) n b = 11 if not (eqb (length b) (n * widthOf p))
 plainNumber (Char w) n b = 11 if not (eqb (length b) (n * w))
 plainNumber Blob n b =
     firstOf (
-      10 if ltb (length b) (4 * n)
-      ∷ 14 if not (rising 0 (length b - 4 * n) (endsOf n b))
-      ∷ 11 if not (eqb (lastOf 0 (endsOf n b)) (length b - 4 * n))
-      ∷ [])
+    10 if ltb (length b) (4 * n)
+    ∷ 14 if not (rising 0 (length b - 4 * n) (endsOf n b))
+    ∷ 11 if not (eqb (lastOf 0 (endsOf n b)) (length b - 4 * n))
+    ∷ [])
 
 -- ---- the rows: item i of n
 unfoldable pub fixedAt : Primitive → List ℕ → ℕ → ℤ

@@ -4,7 +4,6 @@ use mathlib.Core.Bool.{Bool, cond}
 use mathlib.Core.List.{List, [], _∷_}
 
 infix 68 _if_
-
 -- a rule's number if it is broken
 abbrev pub _if_ : ℕ → Bool → ℕ
 e if broken = cond broken e 0

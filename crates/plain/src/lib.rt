@@ -1,5 +1,14 @@
 // Plain blocks of every kind: reading.
-use encode::{BoolKind, DateKind, I16Kind, I32Kind, I64Kind, IntervalKind, Kind, Primitive, TimestampKind, TimestampTzKind};
+use encode::BoolKind;
+use encode::DateKind;
+use encode::I16Kind;
+use encode::I32Kind;
+use encode::I64Kind;
+use encode::IntervalKind;
+use encode::Kind;
+use encode::Primitive;
+use encode::TimestampKind;
+use encode::TimestampTzKind;
 ghost use mathlib.Core.Path.{_≡_};
 ghost use mathlib.Core.Bool.{true};
 ghost use mathlib.Core.List.{map};
@@ -286,20 +295,8 @@ pub fn check(kind: Kind, n: usize, s: &[u8]) -> u8
     ensures { λ r. ⌜ r ≡ plainNumber kind n (now (s .entry)) ⌝ }
 {
     match kind {
-        Kind::Fixed(p) => {
-            if s.len() == n * p.width() {
-                0
-            } else {
-                11
-            }
-        }
-        Kind::Char(w) => {
-            if s.len() == n * (w as usize) {
-                0
-            } else {
-                11
-            }
-        }
+        Kind::Fixed(p) => { if s.len() == n * p.width() { 0 } else { 11 } }
+        Kind::Char(w) => { if s.len() == n * (w as usize) { 0 } else { 11 } }
         Kind::Blob => {
             if s.len() < 4 * n {
                 10

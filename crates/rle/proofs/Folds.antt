@@ -1,11 +1,8 @@
--- Rows of one run, and what stands behind them, under a function and in an area. Assumes nothing.
-use Prim.Native.Nat.{ℕ, zero, suc, _+_, _<_}
-use native.Mathlib.Nat.{add-zero}
-use native.Mathlib.Omega.{arith}
+-- Rows of one run, and what stands behind them, under a function. Assumes nothing.
+use Prim.Native.Nat.{ℕ, zero, suc, _<_}
 use mathlib.Core.List.{List, [], _∷_, _++_, map, map-append}
 use mathlib.Core.Path.{_≡_, refl, ap, _∙_}
-use lib.ListN.{length, set, replicate}
-use lib.Seq.{sets}
+use lib.ListN.{replicate}
 use Rattle.rle.proofs.Laws.{Below}
 
 module _ {A B : Type 0} (f : A → B) where
@@ -21,7 +18,3 @@ pub map-below : {A : Type 0} (f g : ℕ → A) (n : ℕ) (is : List ℕ) → ((i
 map-below f g n [] h b = refl
 map-below {A} f g n (i ∷ is) h b =
     ap (λ (x : A). x ∷ map f is) (h i (b .0)) ∙ ap (λ (l : List A). g i ∷ l) (map-below f g n is h (b .1))
-
-pub sets-append : {A : Type 0} (xs ys d : List A) (i : ℕ) → sets d i (xs ++ ys) ≡ sets (sets d i xs) (i + length xs) ys
-sets-append [] ys d i = rw add-zero
-sets-append (x ∷ xs) ys d i = let m : i + suc (length xs) ≡ suc i + length xs = omega arith in rw m (sets-append xs ys (set d i x) (suc i))

@@ -11,7 +11,7 @@ use borrow.Author.Tests.{lt-ltb, le-ltb, eq-eqb, ne-eqb, ltb-true, ltb-false, eq
 use Rattle.varint.specs.declared.Count.{Count}
 use Rattle.varint.specs.declared.Count.the-variants.{Number, Bad}
 use Rattle.varint.specs.Varint.{countAt}
-use Rattle.varint.proofs.Order.{lt-or-ge}
+use Rattle.area.proofs.Laws.{lt-or-ge}
 use Rattle.varint.proofs.Reading.{cut0}
 use Rattle.varint.proofs.Within.{at-within, at-small}
 use Rattle.rle.specs.declared.Spot.{Spot}

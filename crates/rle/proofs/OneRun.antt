@@ -13,7 +13,7 @@ use borrow.Author.Tests.{lt-ltb, le-ltb, eq-eqb, ne-eqb}
 use Rattle.varint.specs.declared.Count.{Count}
 use Rattle.varint.specs.declared.Count.the-variants.{Number, Bad}
 use Rattle.varint.specs.Varint.{countAt}
-use Rattle.varint.proofs.Order.{lt-or-ge}
+use Rattle.area.proofs.Laws.{lt-or-ge}
 use Rattle.rle.specs.declared.Spot.{Spot}
 use Rattle.rle.specs.Stepping.{spot, none, row, stuck, rows, leave, one, before, andThen, here, settle, next, stepsFrom}
 use Rattle.rle.proofs.Laws.{before-nil, before-before}

@@ -13,7 +13,7 @@ use borrow.Author.Tests.{eqb-true, eqb-false}
 use Rattle.varint.specs.declared.Count.{Count}
 use Rattle.varint.specs.declared.Count.the-variants.{Number, Bad}
 use Rattle.varint.specs.Varint.{countAt}
-use Rattle.varint.proofs.Order.{lt-or-ge}
+use Rattle.area.proofs.Laws.{lt-or-ge}
 use Rattle.rle.specs.declared.Spot.{Spot}
 use Rattle.rle.specs.declared.Walked.{Walked}
 use Rattle.rle.specs.declared.Walked.the-variants.{Total, Refused}

@@ -31,12 +31,12 @@ headFound n b =
     cond (eqb (length b) 0) (cond (eqb n 0) Empty (Refused 16))
     (headBy
     (firstOf (
-      10 if ltb (length b) 8
-      ∷ 3 if ltb 1048576 (runsIn b)
-      ∷ 13 if eqb (runsIn b) 0
-      ∷ 10 if ltb (length b) (8 + countsLength b)
-      ∷ walkNumber n (walked (runsIn b) (countsPart (countsLength b) b))
-      ∷ []))
+    10 if ltb (length b) 8
+    ∷ 3 if ltb 1048576 (runsIn b)
+    ∷ 13 if eqb (runsIn b) 0
+    ∷ 10 if ltb (length b) (8 + countsLength b)
+    ∷ walkNumber n (walked (runsIn b) (countsPart (countsLength b) b))
+    ∷ []))
     (runsIn b)
     (countsLength b))
 

@@ -84,13 +84,13 @@ unfoldable pub runLengthNumber : (ℕ → List ℕ → ℕ) → ℕ → List ℕ
 runLengthNumber inner n b =
     cond (eqb (length b) 0) (16 if not (eqb n 0))
     (firstOf (
-      10 if ltb (length b) 8
-      ∷ 3 if ltb 1048576 (runsIn b)
-      ∷ 13 if eqb (runsIn b) 0
-      ∷ 10 if ltb (length b) (8 + countsLength b)
-      ∷ walkNumber n (walked (runsIn b) (countsPart (countsLength b) b))
-      ∷ inner (runsIn b) (innerPart (countsLength b) b)
-      ∷ []))
+    10 if ltb (length b) 8
+    ∷ 3 if ltb 1048576 (runsIn b)
+    ∷ 13 if eqb (runsIn b) 0
+    ∷ 10 if ltb (length b) (8 + countsLength b)
+    ∷ walkNumber n (walked (runsIn b) (countsPart (countsLength b) b))
+    ∷ inner (runsIn b) (innerPart (countsLength b) b)
+    ∷ []))
 
 -- ---- the rows: of each the run that it lies in
 -- run i as often as its count says

@@ -14,7 +14,7 @@ use Rattle.area.specs.Area.{over}
 use Rattle.varint.specs.declared.Count.{Count}
 use Rattle.varint.specs.declared.Count.the-variants.{Number}
 use Rattle.varint.specs.Varint.{more, countWithin, held, countOf, countAt, spellWithin, spelling}
-use Rattle.varint.proofs.Order.{lt-or-ge}
+use Rattle.area.proofs.Laws.{lt-or-ge}
 use Rattle.varint.proofs.Spelling.{spell-last, spell-more, size1, size2, size3, size4, size5}
 
 count-last : (k b : ℕ) (s : List ℕ) → b < 128 → countWithin (suc k) (b ∷ s) ≡ Number b 1

@@ -11,7 +11,7 @@ use borrow.Author.Tests.{ltb-true, ltb-false}
 use Rattle.varint.specs.declared.Count.{Count}
 use Rattle.varint.specs.declared.Count.the-variants.{Number, Bad}
 use Rattle.varint.specs.Varint.{more, countWithin, held, countOf, spellWithin, spelling}
-use Rattle.varint.proofs.Order.{lt-or-ge}
+use Rattle.area.proofs.Laws.{lt-or-ge}
 use Rattle.varint.proofs.Spelling.{spell-last, spell-more}
 
 -- of a number: it was read from at least as many bytes as its spelling has; of Bad nothing is said

@@ -1,0 +1,10 @@
+pub mod Record
+pub mod Laying
+pub mod Stepwise
+pub mod Moving
+pub mod Giving
+pub mod Testing
+pub mod Dividing
+pub mod Skipping
+pub mod Opening
+pub mod Batching

@@ -1,0 +1,13 @@
+-- `block::Reader::no_runs` meets its contract: each return by what the test of the runs found. Assumes nothing.
+use Rattle.block.proofs.Testing as laws
+use Rattle.block.proofs.Reader.no_runs.Statement.{statement}
+use Rattle.block.proofs.Reader.no_runs.Tie as tie
+
+returns : tie.Need-returns
+returns c = laws.counts-none _ (c .before .if1 .taken)
+
+returns-2 : tie.Need-returns-2
+returns-2 c = laws.some-runs _ (c .if1 .left)
+
+pub no-runs-spec : {M : Type 1} → statement M
+no-runs-spec = tie.close (tie.spec returns returns-2)

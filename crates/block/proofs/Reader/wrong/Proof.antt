@@ -1,0 +1,59 @@
+-- `block::Reader::wrong` meets its contract: each return by the law of the tests that led there. Assumes nothing.
+use native.Mathlib.Omega.{arith}
+use mathlib.Core.Path.{sym, _∙_}
+use borrow.Author.Needs.{needs}
+use Rattle.block.proofs.Testing as laws
+use Rattle.block.proofs.Reader.wrong.Statement.{statement}
+use Rattle.block.proofs.Reader.wrong.Tie as tie
+
+returns : tie.Need-returns
+returns c = laws.wrong-length _ _ _ (omega arith)
+
+returns-2 : tie.Need-returns-2
+returns-2 c = laws.wrong-rows _ _ _ (omega arith) (c .before .before .most-rows .ensures) (omega arith)
+
+returns-3 : tie.Need-returns-3
+returns-3 c = laws.wrong-place _ _ _ (omega arith) (c .before .before .before .before .most-rows .ensures) (omega arith) (omega arith)
+
+returns-4 : tie.Need-returns-4
+returns-4 c =
+    laws.wrong-head
+    _
+    _
+    _
+    (omega arith)
+    (c .before .before .before .before .before .before .most-rows .ensures)
+    (omega arith)
+    (omega arith)
+    (c .before .head-wrong .ensures)
+    (c .if4 .taken)
+
+part-outside-requires : tie.Need-part-outside-requires
+part-outside-requires c κs = (omega arith, omega (arith, c .before .before .before .before .before .before .most-rows .ensures), sym (c .before .head-wrong .ensures) ∙ c .if4 .left)
+
+returns-5 : tie.Need-returns-5
+returns-5 c =
+    laws.wrong-parts
+    _
+    _
+    _
+    (omega arith)
+    (c .before .before .before .before .before .before .before .most-rows .ensures)
+    (omega arith)
+    (omega arith)
+    (c .before .before .head-wrong .ensures)
+    (c .before .if4 .left)
+    (c .part-outside .ensures)
+
+pub wrong-spec : {M : Type 1} → statement M
+wrong-spec =
+    tie.close
+    (tie.spec
+    returns
+    (λ c κs. search needs)
+    returns-2
+    returns-3
+    (λ c κs. search needs)
+    returns-4
+    part-outside-requires
+    returns-5)

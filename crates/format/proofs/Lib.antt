@@ -1,0 +1,7 @@
+pub mod Answers
+pub mod Pairs
+pub mod Sound
+pub mod RunBlocks
+pub mod KeyBlocks
+pub mod Dictionaries
+pub mod ByEncoding

@@ -1,0 +1,85 @@
+-- `format::check_keys` meets its contract: each return by the law of what the runs and the keys were found to be. Assumes nothing.
+use native.Mathlib.Omega.{arith}
+use borrow.Author.Needs.{needs}
+use Rattle.plain.specs.Plain.{plainNumber}
+use Rattle.dict.specs.Dictionary.{i32}
+use Rattle.format.proofs.Sound.{SomeRuns}
+use Rattle.format.proofs.KeyBlocks as laws
+use Rattle.format.proofs.check_keys.Statement.{statement}
+use Rattle.format.proofs.check_keys.Tie as tie
+
+returns : tie.Need-returns
+returns c = laws.runs-wrong _ _ _ (c .before .before .check-runs .ensures) (c .enum-told .given .1)
+
+returns-2 : tie.Need-returns-2
+returns-2 c = let f = c .before .before in laws.no-keys _ _ _ (f .before .before .check-runs .ensures) (f .found .given .1) (c .if1 .taken)
+
+-- there are runs, and their keys stand behind the counts
+some :
+    (c : tie.Else1)
+    → let a = c .before .before .before .before .before .before .args in
+    let v = c .before .before .found .given .0 in
+    SomeRuns (plainNumber i32) (a .s .now) (v .0) (v .1 .0)
+some c =
+    let f = c .before .before in
+    let a = f .before .before .before .before .args in
+    laws.some-runs (a .rows) (a .entries) (a .s .now) (f .before .before .check-runs .ensures) (f .found .given .1) (c .if1 .left)
+
+add-end : tie.Need-add-end
+add-end c = let s = some c in omega arith
+
+sub-known : tie.Need-sub-known
+sub-known c = some c .room
+
+part-known-start : tie.Need-part-known-start
+part-known-start c = some c .room
+
+known-requires : tie.Need-known-requires
+known-requires c κs =
+    let f = c .before .before .before in
+    let a = f .before .before .before .before .args in
+    let r = laws.runs-right (a .rows) (a .entries) (a .s .now) (f .before .before .check-runs .ensures) (f .found .given .1) in
+    (r .many, laws.keys-there _ _ _ (some (c .before) .inside))
+
+returns-3 : tie.Need-returns-3
+returns-3 c =
+    let f = c .before .before .before .before .before in
+    laws.keys-right
+    _
+    _
+    _
+    (f .before .before .check-runs .ensures)
+    (f .found .given .1)
+    (c .before .before .before .if1 .left)
+    (c .before .known .ensures)
+    (c .if2 .taken)
+
+returns-4 : tie.Need-returns-4
+returns-4 c =
+    let f = c .before .before .before .before .before in
+    laws.keys-wrong
+    _
+    _
+    _
+    (f .before .before .check-runs .ensures)
+    (f .found .given .1)
+    (c .before .before .before .if1 .left)
+    (c .before .known .ensures)
+    (c .if2 .left)
+
+pub check-keys-spec : {M : Type 1} → statement M
+check-keys-spec =
+    tie.close
+    (tie.spec
+    (λ c κs. search needs)
+    (λ c. search needs)
+    (λ c. search needs)
+    returns
+    returns-2
+    add-end
+    sub-known
+    part-known-start
+    (λ c. search needs)
+    known-requires
+    returns-3
+    returns-4)

@@ -1,0 +1,29 @@
+-- For the code: the number and the head that a check finds. Assumes nothing.
+use Prim.Native.Nat.{ℕ, zero, suc}
+use mathlib.Core.Bool.{Bool, true, false}
+use mathlib.Core.List.{List, [], _∷_}
+use Rattle.encode.specs.declared.Kind.{Kind}
+use Rattle.plain.specs.Rules.{firstOf}
+use Rattle.plain.specs.Plain.{plainNumber}
+use Rattle.nullable.specs.Nullable.{nullableNumber}
+use Rattle.rle.specs.RunLength.{runsIn, countsLength, runLengthNumber}
+use Rattle.dict.specs.Dictionary.{i32, keysNumber}
+use Rattle.format.specs.declared.Found.{Found}
+use Rattle.format.specs.declared.Found.the-variants.{Sound, Refused}
+use Rattle.format.specs.Opening.{Head, head}
+
+unfoldable pub foundBy : ℕ → Head → Found
+foundBy zero h = Sound (h .runs) (h .counts) (h .keys) (h .entries)
+foundBy (suc e) h = Refused (suc e)
+
+-- the rules of an inner block
+unfoldable pub innerNumber : Bool → Kind → ℕ → List ℕ → ℕ
+innerNumber true k n b = nullableNumber k n b
+innerNumber false k n b = plainNumber k n b
+
+unfoldable pub runsHead : List ℕ → Head
+runsHead b = head (runsIn b) (countsLength b) 0 0
+
+-- the rules of a dictionary's key block, and rule 15
+unfoldable pub keyBlockNumber : ℕ → ℕ → List ℕ → ℕ
+keyBlockNumber n entries b = firstOf (runLengthNumber (plainNumber i32) n b ∷ keysNumber entries b ∷ [])

@@ -1,0 +1,4 @@
+pub mod Blocks
+pub mod Opening
+pub mod Sizes
+pub mod Found

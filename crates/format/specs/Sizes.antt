@@ -1,0 +1,104 @@
+-- 01, "Sizes" and the limits of "What comes back", of a list of rows. Assumes nothing.
+use Prim.Native.Nat.{ℕ, _+_, _*_}
+use mathlib.Core.Bool.{Bool, true, false, not, _&&_, _||_}
+use mathlib.Core.List.{List, [], _∷_, _++_, map}
+use lib.Dec.{ltb, leb, eqb}
+use lib.ListN.{length}
+use Rattle.encode.specs.declared.Kind.{Kind}
+use Rattle.encode.specs.declared.Kind.the-variants.{Fixed, Char, Blob}
+use Rattle.encode.specs.Kinds.{widthOf}
+use Rattle.plain.specs.Rows.{Row, null, bytesIn, fits}
+use Rattle.plain.specs.Plain.{joined, itemOf, plainOf}
+use Rattle.nullable.specs.Nullable.{bitmapOf}
+use Rattle.rle.specs.RunLength.{runsOf}
+use Rattle.dict.specs.Dictionary.{i32, entriesOf, keyOf}
+use Rattle.format.specs.declared.Encoding.{Encoding}
+use Rattle.format.specs.declared.Encoding.the-variants.{Plain, Nullable, RunLength, RunLengthNullable, Dictionary}
+use Rattle.format.specs.Blocks.{blockOf}
+
+-- the rows that the inner block of a run-length block stores, one a run; a dictionary's keys, one a row
+unfoldable pub runRows : List Row → List Row
+runRows rows = map (λ r. r .row) (runsOf rows)
+
+unfoldable pub keysOf : List Row → List Row
+keysOf rows = map (keyOf (entriesOf rows)) rows
+
+-- ---- the estimated size
+-- plain: its bytes
+unfoldable pub plainSize : Kind → List Row → ℕ
+plainSize k rows = length (plainOf k rows)
+
+-- nullable: plain plus bitmap bytes
+unfoldable pub nullableSize : Kind → List Row → ℕ
+nullableSize k rows = plainSize k rows + length (bitmapOf rows)
+
+-- run-length: inner + 4 + 2 per run
+unfoldable pub runLengthSize : (List Row → ℕ) → List Row → ℕ
+runLengthSize inner rows = inner (runRows rows) + 4 + 2 * length (runsOf rows)
+
+-- dictionary: 8 + key part + entries
+unfoldable pub estimateOf : Kind → Encoding → List Row → ℕ
+estimateOf k Plain rows = plainSize k rows
+estimateOf k Nullable rows = nullableSize k rows
+estimateOf k RunLength rows = runLengthSize (plainSize k) rows
+estimateOf k RunLengthNullable rows = runLengthSize (nullableSize k) rows
+estimateOf k Dictionary rows = 8 + runLengthSize (plainSize i32) (keysOf rows) + plainSize k (entriesOf rows)
+
+-- ---- should_finish, before a next row
+-- the next item: its width; for blob its length and 4, and 4 for a null
+unfoldable pub nextSize : Kind → Row → ℕ
+nextSize (Fixed p) next = widthOf p
+nextSize (Char w) next = w
+nextSize Blob next = length (bytesIn next) + 4
+
+-- item bytes that aren't empty, and so many bytes more than the estimate exceed the target
+unfoldable pub fullWith : ℕ → Kind → ℕ → List Row → Bool
+fullWith more k target rows = not (eqb (length (joined (itemOf k) rows)) 0) && ltb target (plainSize k rows + more)
+
+unfoldable pub plainFull : Kind → ℕ → List Row → Row → Bool
+plainFull k target rows next = fullWith (nextSize k next) k target rows
+
+unfoldable pub nullableFull : Kind → ℕ → List Row → Row → Bool
+nullableFull k target rows next = fullWith (nextSize k next + 1) k target rows
+
+-- the target of a dictionary's keys is the entries' estimated size at creation
+unfoldable pub keyTarget : Kind → ℕ
+keyTarget k = plainSize k []
+
+unfoldable pub shouldFinish : Kind → Encoding → ℕ → List Row → Row → Bool
+shouldFinish k Plain target rows next = plainFull k target rows next
+shouldFinish k Nullable target rows next = nullableFull k target rows next
+shouldFinish k RunLength target rows next = plainFull k target (runRows rows) next
+shouldFinish k RunLengthNullable target rows next = nullableFull k target (runRows rows) next
+shouldFinish k Dictionary target rows next =
+    plainFull k target (entriesOf rows) next || plainFull i32 (keyTarget k) (runRows (keysOf rows)) null
+
+-- ---- the limits: total rows, stored items or runs, entries, the finished block
+unfoldable pub storedItems : Encoding → List Row → ℕ
+storedItems Plain rows = length rows
+storedItems Nullable rows = length rows
+storedItems RunLength rows = length (runsOf rows)
+storedItems RunLengthNullable rows = length (runsOf rows)
+storedItems Dictionary rows = length (runsOf (keysOf rows))
+
+unfoldable pub storedEntries : Encoding → List Row → ℕ
+storedEntries Plain rows = 0
+storedEntries Nullable rows = 0
+storedEntries RunLength rows = 0
+storedEntries RunLengthNullable rows = 0
+storedEntries Dictionary rows = length (entriesOf rows)
+
+unfoldable pub withinLimits : Kind → Encoding → List Row → Bool
+withinLimits k e rows =
+    leb (length rows) 281474976710655
+    && leb (storedItems e rows) 1048576
+    && leb (storedEntries e rows) 65536
+    && leb (length (blockOf k e rows)) 16777216
+
+-- a list is accepted, appended row by row, if each row fits its kind and each prefix stays within the limits
+unfoldable pub acceptedAfter : Kind → Encoding → List Row → List Row → Bool
+acceptedAfter k e done [] = true
+acceptedAfter k e done (r ∷ rows) = fits k r && withinLimits k e (done ++ (r ∷ [])) && acceptedAfter k e (done ++ (r ∷ [])) rows
+
+unfoldable pub accepted : Kind → Encoding → List Row → Bool
+accepted k e rows = acceptedAfter k e [] rows

@@ -1,0 +1,214 @@
+// Columns of every kind and encoding: which numbers name them, and whether a block is sound.
+use encode::FoundKind;
+use encode::Kind;
+use encode::Primitive;
+use rle::Head;
+ghost use mathlib.Core.Path.{_≡_};
+ghost use Prim.Native.Nat.{_≤_};
+ghost use lib.ListN.{length};
+ghost use Rattle.rle.specs.RunLength.{runLengthNumber};
+ghost use Rattle.dict.specs.Dictionary.{dictionaryNumber};
+ghost use Rattle.format.specs.Blocks.{columnOf};
+ghost use Rattle.format.specs.Opening.{mostRows, rulesOf, head, headOf};
+ghost use Rattle.format.specs.Found.{foundBy, innerNumber, runsHead, keyBlockNumber};
+
+// How a column is laid out: encodings 0 to 4.
+pub enum Encoding {
+    Plain,
+    Nullable,
+    RunLength,
+    RunLengthNullable,
+    Dictionary,
+}
+
+// What the numbers of a kind, an encoding and a width name together.
+pub enum Column {
+    Of { kind: Kind, encoding: Encoding },
+    Unknown,
+}
+
+// What a check finds: the numbers at the head of a sound block, 0 where its encoding has none; or the refusal.
+pub enum Found {
+    Sound {
+        runs: usize,
+        counts: usize,
+        keys: usize,
+        entries: usize,
+    },
+    Refused(u8),
+}
+
+// The pair that three numbers name.
+pub fn column_of(kind: usize, encoding: usize, width: usize) -> Column
+    ensures { λ r. ⌜ r ≡ columnOf kind encoding width ⌝ }
+{
+    let found = encode::kind_of(kind, width);
+    let FoundKind::Known(k) = found else {
+        return Column::Unknown;
+    };
+    match encoding {
+        0 => Column::Of {
+            kind: k,
+            encoding: Encoding::Plain,
+        },
+        1 => Column::Of {
+            kind: k,
+            encoding: Encoding::Nullable,
+        },
+        2 => Column::Of {
+            kind: k,
+            encoding: Encoding::RunLength,
+        },
+        3 => Column::Of {
+            kind: k,
+            encoding: Encoding::RunLengthNullable,
+        },
+        4 => Column::Of {
+            kind: k,
+            encoding: Encoding::Dictionary,
+        },
+        _ => Column::Unknown,
+    }
+}
+
+// The most rows that an encoding holds: in the first two every row is a stored item.
+pub fn most_rows(e: Encoding) -> usize
+    ensures { λ r. ⌜ r ≡ mostRows e ⌝ }
+{
+    match e {
+        Encoding::Plain | Encoding::Nullable => 1048576,
+        Encoding::RunLength | Encoding::RunLengthNullable | Encoding::Dictionary => 281474976710655,
+    }
+}
+
+// Sound with nothing at the head, if the number is 0.
+fn bare(number: u8) -> Found
+    ensures { λ r. ⌜ r ≡ foundBy number (head 0 0 0 0) ⌝ }
+{
+    if number == 0 {
+        return Found::Sound {
+            runs: 0,
+            counts: 0,
+            keys: 0,
+            entries: 0,
+        };
+    }
+    Found::Refused(number)
+}
+
+// The rules of an inner block of `n` items, plain or nullable.
+fn check_inner(kind: Kind, nullable: bool, n: usize, s: &[u8]) -> u8
+    requires { ⌜ n ≤ 1048576 ⌝ }
+    ensures { λ r. ⌜ r ≡ innerNumber nullable kind n (now (s .entry)) ⌝ }
+{
+    if nullable {
+        return nullable::check(kind, n, s);
+    }
+    plain::check(kind, n, s)
+}
+
+// The rules of a run-length block over a plain or a nullable one.
+fn check_runs(kind: Kind, nullable: bool, rows: usize, s: &[u8]) -> Found
+    requires { ⌜ length (now s) ≤ 16777216 ⌝ }
+    ensures { λ r. ⌜ r ≡ foundBy (runLengthNumber (innerNumber nullable kind) rows (now (s .entry))) (runsHead (now (s .entry))) ⌝ }
+{
+    let head = rle::find_head(rows as u64, s);
+    match head {
+        Head::Empty => bare(0),
+        Head::Refused(e) => Found::Refused(e),
+        Head::Runs { runs, counts } => {
+            let end = 8 + counts;
+            let number = check_inner(kind, nullable, runs, &s[end..]);
+            if number != 0 {
+                return Found::Refused(number);
+            }
+            Found::Sound {
+                runs,
+                counts,
+                keys: 0,
+                entries: 0,
+            }
+        }
+    }
+}
+
+// The rules of a dictionary's key block, and that each key is null or names one of `entries`.
+fn check_keys(rows: usize, s: &[u8], entries: usize) -> Found
+    requires { ⌜ length (now s) ≤ 16777216 ⌝ }
+    ensures { λ r. ⌜ r ≡ foundBy (keyBlockNumber rows entries (now (s .entry))) (runsHead (now (s .entry))) ⌝ }
+{
+    let found = check_runs(Kind::Fixed(Primitive::I32), false, rows, s);
+    let Found::Sound {
+        runs,
+        counts,
+        keys: _,
+        entries: _,
+    } = found
+    else {
+        return found;
+    };
+    // no runs, no keys
+    if runs == 0 {
+        return found;
+    }
+    let end = 8 + counts;
+    if dict::known(&s[end..], runs, entries) {
+        return found;
+    }
+    Found::Refused(15)
+}
+
+// The rules of a dictionary block.
+fn check_dictionary(kind: Kind, rows: usize, s: &[u8]) -> Found
+    requires { ⌜ length (now s) ≤ 16777216 ⌝ }
+    ensures { λ r. ⌜ r ≡ foundBy (dictionaryNumber kind rows (now (s .entry))) (headOf Encoding.Dictionary (now (s .entry))) ⌝ }
+{
+    let n = s.len();
+    if n < 12 {
+        return Found::Refused(10);
+    }
+    let entries = dict::entries_in(s);
+    if 65536 < entries {
+        return Found::Refused(3);
+    }
+    // 12 is taken off the length and not added to the key block's, which can be near 2^64
+    let keys = dict::key_len(s) as usize;
+    if n - 12 < keys {
+        return Found::Refused(10);
+    }
+    let end = 12 + keys;
+    let found = check_keys(rows, &s[12..end], entries);
+    let Found::Sound {
+        runs,
+        counts,
+        keys: _,
+        entries: _,
+    } = found
+    else {
+        return found;
+    };
+    let number = plain::check(kind, entries, &s[end..]);
+    if number != 0 {
+        return Found::Refused(number);
+    }
+    Found::Sound {
+        runs,
+        counts,
+        keys,
+        entries,
+    }
+}
+
+// The rules of a column.
+pub fn check(kind: Kind, encoding: Encoding, rows: usize, s: &[u8]) -> Found
+    requires { ⌜ (length (now s) ≤ 16777216) × (rows ≤ mostRows encoding) ⌝ }
+    ensures { λ r. ⌜ r ≡ foundBy (rulesOf kind encoding rows (now (s .entry))) (headOf encoding (now (s .entry))) ⌝ }
+{
+    match encoding {
+        Encoding::Plain => bare(plain::check(kind, rows, s)),
+        Encoding::Nullable => bare(nullable::check(kind, rows, s)),
+        Encoding::RunLength => check_runs(kind, false, rows, s),
+        Encoding::RunLengthNullable => check_runs(kind, true, rows, s),
+        Encoding::Dictionary => check_dictionary(kind, rows, s),
+    }
+}

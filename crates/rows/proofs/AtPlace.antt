@@ -1,0 +1,237 @@
+-- The row of one place: what a good place tells of its parts, which item it shows, and its text, value and flag. Assumes nothing.
+use Prim.Native.Nat.{ℕ, zero, suc, _+_, _-_, _*_, _≤_, _<_}
+use native.Mathlib.Numerals.{add-one}
+use native.Mathlib.Omega.{arith}
+use mathlib.Core.Bool.{Bool, true, false, cond}
+use mathlib.Core.List.{List, [], _∷_}
+use mathlib.Core.Logic.{inl, inr}
+use mathlib.Core.Path.{_≡_, refl, sym, ap, _∙_}
+use lib.Dec.{ltb, eqb}
+use lib.IntN.{ℤ, pos}
+use lib.ListN.{length, take, drop, length-drop}
+use lib.Seq.{length-take-le}
+use types.Run.{OneOf}
+use denote.Enum.Declared.{tagOf}
+use borrow.Author.Tests.{lt-ltb, le-ltb, ltb-true, eq-eqb, ne-eqb}
+use Rattle.encode.specs.Kinds.{widthOf}
+use Rattle.encode.specs.declared.Kind.{Kind}
+use Rattle.encode.specs.declared.Kind.the-variants.{Fixed, Char, Blob}
+use Rattle.encode.specs.declared.Primitive.{Primitive}
+use Rattle.plain.specs.Rows.{intIn, bytesIn}
+use Rattle.plain.specs.Plain.{leastBytes, endsGood, plainRow, fixedAt}
+use Rattle.plain.proofs.Items.{item-room}
+use Rattle.nullable.specs.Nullable.{bitAt, presence}
+use Rattle.dict.specs.Dictionary.{slotAt, entryRow, entryGood}
+use Rattle.rows.specs.declared.Marks.{Marks}
+use Rattle.rows.specs.declared.Marks.the-variants.{Bare, Bits, Keys}
+use Rattle.rows.specs.declared.Source.{Source}
+use Rattle.rows.specs.Rows.{shownBy, seenBy, mostBy, rowBy, textBy, sizeBy, goodBy, markBytes, Ready}
+use Rattle.rows.proofs.Marks.{the-type}
+use Rattle.rows.proofs.Folds.{both}
+
+-- ---- an item, counted from 1 on, is there and good: the returns of `slot_good`
+module _ (kind : Kind) (n : ℕ) (part : List ℕ) where
+  pub entry-null : (slot : ℕ) → slot ≡ 0 → true ≡ entryGood kind n part slot
+  unfolding entryGood
+  entry-null slot z = rw z
+
+  pub entry-past : (slot : ℕ) → (slot ≡ 0 → ⊥) → n ≤ slot - 1 → false ≡ entryGood kind n part slot
+  unfolding entryGood
+  entry-past zero z h = absurd (z refl)
+  entry-past (suc i) z h = simp (le-ltb i n (omega arith))
+
+  pub entry-there : (slot : ℕ) {r : Bool} → (slot ≡ 0 → ⊥) → slot - 1 < n → r ≡ endsGood kind n part (slot - 1) → r ≡ entryGood kind n part slot
+  unfolding entryGood
+  entry-there zero z h e = absurd (z refl)
+  entry-there (suc i) z h e = let m : suc i - 1 ≡ i = omega arith in rw m at e ∙ simp (lt-ltb i n (omega arith))
+
+  -- what a good one tells
+  entry-most : (slot : ℕ) → entryGood kind n part slot ≡ true → slot ≤ n
+  unfolding entryGood
+  entry-most zero h = omega arith
+  entry-most (suc i) h = omega (arith, ltb-true i n (both (ltb i n) (endsGood kind n part i) h .0))
+
+  entry-ends : (slot : ℕ) → (slot ≡ 0 → ⊥) → entryGood kind n part slot ≡ true → endsGood kind n part (slot - 1) ≡ true
+  unfolding entryGood
+  entry-ends zero z h = absurd (z refl)
+  entry-ends (suc i) z h = let m : suc i - 1 ≡ i = omega arith in rw m (both (ltb i n) (endsGood kind n part i) h .1)
+
+  -- its row
+  entry-row : (slot : ℕ) → (slot ≡ 0 → ⊥) → entryRow kind n part slot ≡ plainRow kind n part (slot - 1)
+  unfolding entryRow
+  entry-row zero z = absurd (z refl)
+  entry-row (suc i) z = let m : suc i - 1 ≡ i = omega arith in rw m
+
+-- ---- how many places there are, and which item is looked at
+-- an arm for rows with a bit or none, by the numbers of these marks, is none for keys
+no-key : OneOf (0 ∷ 1 ∷ []) 2 → ⊥
+no-key (inl e) = omega arith
+no-key (inr e) = omega arith
+
+pub rows-most : (by : Marks) (items runs : ℕ) → OneOf (0 ∷ 1 ∷ []) (tagOf the-type by) → mostBy by items runs ≡ items
+unfolding mostBy
+rows-most Bare items runs h = refl
+rows-most Bits items runs h = refl
+rows-most Keys items runs h = absurd (no-key h)
+
+pub rows-seen : (by : Marks) (marks : List ℕ) (i : ℕ) → OneOf (0 ∷ 1 ∷ []) (tagOf the-type by) → seenBy by marks i ≡ i + 1
+unfolding seenBy
+rows-seen Bare marks i h = sym (add-one i)
+rows-seen Bits marks i h = sym (add-one i)
+rows-seen Keys marks i h = absurd (no-key h)
+
+pub keys-most : {by : Marks} (items runs : ℕ) → by ≡ Keys → mostBy by items runs ≡ runs
+unfolding mostBy
+keys-most items runs e = rw e
+
+pub keys-seen : {by : Marks} (marks : List ℕ) (i : ℕ) {slot : ℕ} → by ≡ Keys → slot ≡ slotAt marks i → seenBy by marks i ≡ slot
+unfolding seenBy
+keys-seen marks i e q = rw e (sym q)
+
+-- ---- which item is shown: that which is looked at, or none
+shown-seen : (by : Marks) (marks : List ℕ) (i : ℕ) → (shownBy by marks i ≡ 0 → ⊥) → shownBy by marks i ≡ seenBy by marks i
+unfolding shownBy seenBy
+shown-seen Bare marks i z = refl
+shown-seen Keys marks i z = refl
+shown-seen Bits marks i z = go (eqb (bitAt marks i) 0) refl
+  where
+    go : (t : Bool) → eqb (bitAt marks i) 0 ≡ t → cond t 0 (suc i) ≡ suc i
+    go true e = absurd (z (rw e))
+    go false e = refl
+
+module _ {by : Marks} (marks : List ℕ) (i : ℕ) where
+  pub shown-bare : by ≡ Bare → i + 1 ≡ shownBy by marks i
+  unfolding shownBy
+  shown-bare e = rw e (add-one i)
+
+  pub shown-key : {r : ℕ} → by ≡ Keys → r ≡ slotAt marks i → r ≡ shownBy by marks i
+  unfolding shownBy
+  shown-key e q = rw e q
+
+  module _ (e : by ≡ Bits) {bit : ℕ} (q : bit ≡ bitAt marks i) where
+    pub shown-null : bit ≡ 0 → 0 ≡ shownBy by marks i
+    unfolding shownBy
+    shown-null z = rw (e, ← q) (simp (eq-eqb bit 0 z))
+
+    pub shown-bit : (bit ≡ 0 → ⊥) → i + 1 ≡ shownBy by marks i
+    unfolding shownBy
+    shown-bit z = rw (e, ← q) (simp (ne-eqb bit 0 z) (add-one i))
+
+-- ---- what a good place tells
+good-parts : (s : Source) (marks items : List ℕ) (i : ℕ) → goodBy s marks items i ≡ true
+    → (i < mostBy (s .marks) (s .items) (s .runs)) × (entryGood (s .kind) (s .items) items (seenBy (s .marks) marks i) ≡ true)
+unfolding goodBy
+good-parts s marks items i g =
+    let m : ℕ = mostBy (s .marks) (s .items) (s .runs) in
+    let h = both (ltb i m) (entryGood (s .kind) (s .items) items (seenBy (s .marks) marks i)) g in
+    (ltb-true i m (h .0), h .1)
+
+module _ {s : Source} {marks items : List ℕ} (r : Ready s marks items) (i : ℕ) where
+  -- a bit and a key lie in the marks
+  marked : {by : Marks} → s .marks ≡ by → markBytes by (s .items) (s .runs) (length marks)
+  marked e = rw e at (r .marked)
+
+  pub bit-place : s .marks ≡ Bits → i < s .items → i < 8 * length marks
+  unfolding markBytes
+  bit-place e h = let k : s .items ≤ 8 * length marks = marked e in omega arith
+
+  pub key-place : s .marks ≡ Keys → i < s .runs → (i < 1048576) × (4 * i + 4 ≤ length marks)
+  unfolding markBytes
+  key-place e h = let k : 4 * s .runs ≤ length marks = marked e in omega (arith, r .short)
+
+  module _ (g : goodBy s marks items i ≡ true) where
+    below : {by : Marks} → s .marks ≡ by → i < mostBy by (s .items) (s .runs)
+    below e = rw e at (good-parts s marks items i g .0)
+
+    pub good-bare : s .marks ≡ Bare → i < s .items
+    unfolding mostBy
+    good-bare e = below e
+
+    pub good-bits : s .marks ≡ Bits → i < s .items
+    unfolding mostBy
+    good-bits e = below e
+
+    pub good-keys : s .marks ≡ Keys → i < s .runs
+    unfolding mostBy
+    good-keys e = below e
+
+    module _ {slot : ℕ} (e : slot ≡ shownBy (s .marks) marks i) where
+      pub slot-most : slot ≤ s .items
+      slot-most = go slot refl
+        where
+          go : (k : ℕ) → slot ≡ k → slot ≤ s .items
+          go zero z = omega arith
+          go (suc k) z =
+              let q : slot ≡ seenBy (s .marks) marks i = e ∙ shown-seen (s .marks) marks i (λ n. omega (arith, e, n)) in
+              omega (arith, entry-most (s .kind) (s .items) items (seenBy (s .marks) marks i) (good-parts s marks items i g .1))
+
+      pub slot-ends : (slot ≡ 0 → ⊥) → endsGood (s .kind) (s .items) items (slot - 1) ≡ true
+      slot-ends z =
+          let q : slot ≡ seenBy (s .marks) marks i = e ∙ shown-seen (s .marks) marks i (λ n. z (e ∙ n)) in
+          entry-ends (s .kind) (s .items) items slot z (rw q (good-parts s marks items i g .1))
+
+      -- the bytes of the item shown
+      pub slot-bytes : {p : Primitive} → s .kind ≡ Fixed p → (slot ≡ 0 → ⊥) → (slot - 1) * widthOf p + widthOf p ≤ length items
+      unfolding leastBytes
+      slot-bytes {p} k z =
+          let w : s .items * widthOf p ≤ length items = rw k at (r .whole) in
+          item-room (slot - 1) (s .items) (widthOf p) (length items) (omega (arith, slot-most)) w
+
+-- ---- the row, by the item shown
+-- the size is that of the text
+pub sizes : (s : Source) (marks items : List ℕ) (i : ℕ) → sizeBy s marks items i ≡ length (textBy s marks items i)
+unfolding sizeBy
+sizes s marks items i = refl
+
+module _ (s : Source) (marks items : List ℕ) (i : ℕ) where
+  pub part-size : (from len : ℕ) → from + len ≤ length items → take len (drop from items) ≡ textBy s marks items i → len ≡ sizeBy s marks items i
+  unfolding sizeBy
+  part-size from len h q = sym (length-take-le len (drop from items) (simp length-drop (omega arith))) ∙ ap length q
+
+  module _ {slot : ℕ} (e : slot ≡ shownBy (s .marks) marks i) where
+    null-row : slot ≡ 0 → rowBy s marks items i ≡ entryRow (s .kind) (s .items) items 0
+    unfolding rowBy
+    null-row z = rw (← e, z)
+
+    item-row : (slot ≡ 0 → ⊥) → rowBy s marks items i ≡ plainRow (s .kind) (s .items) items (slot - 1)
+    unfolding rowBy
+    item-row z = rw (← e) (entry-row (s .kind) (s .items) items slot z)
+
+    pub text-null : slot ≡ 0 → (0 + 0 ≤ length items) × (take 0 (drop 0 items) ≡ textBy s marks items i)
+    unfolding textBy bytesIn entryRow
+    text-null z = (omega arith, rw (null-row z))
+
+    pub text-item : {xs : List ℕ} → (slot ≡ 0 → ⊥) → xs ≡ bytesIn (plainRow (s .kind) (s .items) items (slot - 1)) → xs ≡ textBy s marks items i
+    unfolding textBy
+    text-item z q = rw (item-row z) q
+
+    pub value-null : slot ≡ 0 → pos 0 ≡ intIn (rowBy s marks items i)
+    unfolding intIn entryRow
+    value-null z = rw (null-row z)
+
+    pub value-item : {p : Primitive} {v : ℤ} → s .kind ≡ Fixed p → (slot ≡ 0 → ⊥) → v ≡ fixedAt p items (slot - 1) → v ≡ intIn (rowBy s marks items i)
+    unfolding intIn plainRow
+    value-item k z q = q ∙ rw (item-row z, k)
+
+    pub flag-null : slot ≡ 0 → 0 ≡ presence (rowBy s marks items i)
+    unfolding presence entryRow
+    flag-null z = rw (null-row z)
+
+    pub flag-item : (slot ≡ 0 → ⊥) → 1 ≡ presence (rowBy s marks items i)
+    unfolding presence plainRow
+    flag-item z = rw (item-row z) (here (s .kind))
+      where
+        here : (k : Kind) → 1 ≡ presence (plainRow k (s .items) items (slot - 1))
+        here (Fixed p) = refl
+        here (Char w) = refl
+        here Blob = refl
+
+  -- ---- the returns of `good`, by how many places there are and which item is looked at
+  module _ {most : ℕ} (m : mostBy (s .marks) (s .items) (s .runs) ≡ most) where
+    pub good-past : most ≤ i → false ≡ goodBy s marks items i
+    unfolding goodBy
+    good-past h = rw m (simp (le-ltb i most h))
+
+    pub good-there : {seen : ℕ} {x : Bool} → seenBy (s .marks) marks i ≡ seen → i < most → x ≡ entryGood (s .kind) (s .items) items seen → x ≡ goodBy s marks items i
+    unfolding goodBy
+    good-there n h q = q ∙ rw (m, n) (simp (lt-ltb i most h))

@@ -1,0 +1,108 @@
+-- For the code, which serves every encoding from three parts of a block: the counts of its runs, its marks (none, a bit a row, a key a run) and its
+-- items. Assumes nothing.
+use Prim.Native.Nat.{ℕ, zero, suc, _+_, _*_, _^_, _≤_, _<_}
+use mathlib.Core.Path.{_≡_}
+use mathlib.Core.Bool.{Bool, true, false, cond, _&&_}
+use mathlib.Core.List.{List, [], _∷_}
+use lib.Dec.{ltb, eqb}
+use lib.IntN.{ℤ}
+use lib.ListN.{length}
+use Rattle.plain.specs.Rows.{Row, intIn, bytesIn}
+use Rattle.plain.specs.Plain.{leastBytes}
+use Rattle.nullable.specs.Nullable.{bitAt, presence}
+use Rattle.rle.specs.declared.Spot.{Spot}
+use Rattle.rle.specs.Stepping.{Steps, stuck, rows}
+use Rattle.rle.specs.Pieces.{Fine, runsOf}
+use Rattle.dict.specs.Dictionary.{slotAt, entryRow, entryGood}
+use Rattle.rows.specs.declared.Marks.{Marks}
+use Rattle.rows.specs.declared.Marks.the-variants.{Bare, Bits, Keys}
+use Rattle.rows.specs.declared.Source.{Source}
+use Rattle.rows.specs.declared.Weight.{Weight}
+use Rattle.rows.specs.declared.Weight.the-variants.{Sum, Broken}
+use Rattle.rows.specs.declared.Weighed.{Weighed}
+use Rattle.rows.specs.declared.Weighed.the-variants.{Total, Stuck}
+
+-- ---- the row of place i: an item or a run
+-- which item it shows, from 1 on; 0 is null
+unfoldable pub shownBy : Marks → List ℕ → ℕ → ℕ
+shownBy Bare marks i = suc i
+shownBy Bits marks i = cond (eqb (bitAt marks i) 0) 0 (suc i)
+shownBy Keys marks i = slotAt marks i
+
+-- which item is looked at: under a null bit too
+unfoldable pub seenBy : Marks → List ℕ → ℕ → ℕ
+seenBy Bare marks i = suc i
+seenBy Bits marks i = suc i
+seenBy Keys marks i = slotAt marks i
+
+-- how many places there are
+unfoldable pub mostBy : Marks → ℕ → ℕ → ℕ
+mostBy Bare items runs = items
+mostBy Bits items runs = items
+mostBy Keys items runs = runs
+
+unfoldable pub rowBy : Source → List ℕ → List ℕ → ℕ → Row
+rowBy s marks items i = entryRow (s .kind) (s .items) items (shownBy (s .marks) marks i)
+
+unfoldable pub textBy : Source → List ℕ → List ℕ → ℕ → List ℕ
+textBy s marks items i = bytesIn (rowBy s marks items i)
+
+unfoldable pub sizeBy : Source → List ℕ → List ℕ → ℕ → ℕ
+sizeBy s marks items i = length (textBy s marks items i)
+
+unfoldable pub intBy : Source → List ℕ → List ℕ → ℕ → ℤ
+intBy s marks items i = intIn (rowBy s marks items i)
+
+unfoldable pub flagBy : Source → List ℕ → List ℕ → ℕ → ℕ
+flagBy s marks items i = presence (rowBy s marks items i)
+
+unfoldable pub goodBy : Source → List ℕ → List ℕ → ℕ → Bool
+goodBy s marks items i =
+    ltb i (mostBy (s .marks) (s .items) (s .runs)) && entryGood (s .kind) (s .items) items (seenBy (s .marks) marks i)
+
+-- the parts are long enough for their items, bits and keys
+unfoldable pub markBytes : Marks → ℕ → ℕ → ℕ → Type 0
+markBytes Bare items runs n = Unit
+markBytes Bits items runs n = items ≤ 8 * n
+markBytes Keys items runs n = 4 * runs ≤ n
+
+pub record Ready (s : Source) (marks items : List ℕ) : Type 0 where
+  pub few : s .items ≤ 1048576
+  pub short : s .runs ≤ 1048576
+  pub block : length items ≤ 16777216
+  pub whole : leastBytes (s .kind) (s .items) ≤ length items
+  pub marked : markBytes (s .marks) (s .items) (s .runs) (length marks)
+
+-- a place from which n rows can be read: rows that are not coded by runs are each an item
+unfoldable pub startsBy : Bool → ℕ → ℕ → ℕ → Type 0
+startsBy true run runs n = run ≤ runs
+startsBy false run runs n = run + n ≤ 1048576
+
+abbrev pub Starts : Source → Spot → ℕ → Type 0
+Starts s from n = startsBy (s .coded) (from .run) (s .runs) n
+
+-- ---- the weight of some rows: their bytes, or 4,294,967,296 for all that are more
+unfoldable pub capped : ℕ → ℕ
+capped t = cond (ltb 4294967296 t) 4294967296 t
+
+unfoldable pub allOf : (ℕ → Bool) → List ℕ → Bool
+allOf p [] = true
+allOf p (i ∷ is) = p i && allOf p is
+
+unfoldable pub sumOf : (ℕ → ℕ) → List ℕ → ℕ
+sumOf f [] = 0
+sumOf f (i ∷ is) = f i + sumOf f is
+
+-- so many rows of place i more
+unfoldable pub heavier : (ℕ → Bool) → (ℕ → ℕ) → ℕ → ℕ → ℕ → Weight
+heavier p f i m total = cond (eqb m 0) (Sum total) (cond (p i) (Sum (capped (total + m * f i))) Broken)
+
+unfoldable pub weighedBy : (ℕ → Bool) → (ℕ → ℕ) → Steps → Weighed
+weighedBy p f stuck = Stuck
+weighedBy p f (rows is t) = cond (allOf p is) (Total (capped (sumOf f is)) t) Stuck
+
+-- ---- writing wants the rows to be there and good, and room for them
+pub record Writes (good : ℕ → Bool) (steps : Steps) (n room : ℕ) : Type 0 where
+  pub fine : Fine steps
+  pub right : allOf good (runsOf steps) ≡ true
+  pub rows : n ≤ room
