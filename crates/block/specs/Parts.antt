@@ -13,7 +13,7 @@ use Rattle.rle.specs.Pieces.{stepsIn}
 use Rattle.rows.specs.declared.Marks.{Marks}
 use Rattle.rows.specs.declared.Marks.the-variants.{Bare, Bits, Keys}
 use Rattle.rows.specs.declared.Source.{Source}
-use Rattle.rows.specs.Rows.{rowBy, goodBy, allOf, Ready, Starts}
+use Rattle.rows.specs.Rows.{rowBy, goodBy, sizeBy, intBy, flagBy, textBy, allOf, Ready, Starts, Writes}
 use Rattle.format.specs.declared.Encoding.{Encoding}
 use Rattle.format.specs.declared.Encoding.the-variants.{Plain, Nullable, RunLength, RunLengthNullable, Dictionary}
 use Rattle.block.specs.declared.Reader.{Reader}
@@ -89,6 +89,26 @@ marksIn p b = partIn (p .marks) b
 
 abbrev pub itemsIn : Parts → List ℕ → List ℕ
 itemsIn p b = partIn (p .items) b
+
+-- what the parts say of place i: whether it is good, its size in bytes, its value, its flag, its bytes
+abbrev pub goodIn : Parts → List ℕ → ℕ → Bool
+goodIn p b i = goodBy (p .source) (marksIn p b) (itemsIn p b) i
+
+abbrev pub sizeIn : Parts → List ℕ → ℕ → ℕ
+sizeIn p b i = sizeBy (p .source) (marksIn p b) (itemsIn p b) i
+
+abbrev pub valueIn : Parts → List ℕ → ℕ → ℤ
+valueIn p b i = intBy (p .source) (marksIn p b) (itemsIn p b) i
+
+abbrev pub flagIn : Parts → List ℕ → ℕ → ℕ
+flagIn p b i = flagBy (p .source) (marksIn p b) (itemsIn p b) i
+
+abbrev pub textIn : Parts → List ℕ → ℕ → List ℕ
+textIn p b i = textBy (p .source) (marksIn p b) (itemsIn p b) i
+
+-- the second pass may write the next n rows into an area: they are there and good, and there is room
+abbrev pub MayWrite : Parts → Reader → List ℕ → ℕ → ℕ → Type 0
+MayWrite p r b n room = Writes (goodIn p b) (stepsBy p r b n) n room
 
 -- all that reading n rows from the parts needs
 pub record Serves (p : Parts) (r : Reader) (b : List ℕ) (n : ℕ) : Type 0 where

@@ -26,11 +26,11 @@ ghost use Rattle.encode.specs.declared.Kind.the-variants.{Fixed};
 ghost use Rattle.plain.specs.Plain.{leastBytes, joined, endsFrom};
 ghost use Rattle.rle.specs.Pieces.{reached, runsOf};
 ghost use Rattle.rows.specs.declared.Marks.the-variants.{Bits};
-ghost use Rattle.rows.specs.Rows.{goodBy, sizeBy, intBy, flagBy, textBy, sumOf, Writes, weighedBy};
+ghost use Rattle.rows.specs.Rows.{sumOf, weighedBy};
 ghost use Rattle.format.specs.Blocks.{columnOf};
 ghost use Rattle.format.specs.Opening.{mostRows};
 ghost use Rattle.block.specs.Reading.{opened, noRuns, partOutside, headWrong, wrong as contradicts, remaining as remainingOf, skipped, Areas, batched, isBytes, areas};
-ghost use Rattle.block.specs.Parts.{partsOf, AllWithin, Serves, startOf, movedBy, stepsBy, marksIn, itemsIn, batchBy, valuesAndFlags, endsAndBytes};
+ghost use Rattle.block.specs.Parts.{partsOf, AllWithin, Serves, startOf, movedBy, stepsBy, goodIn, sizeIn, valueIn, flagIn, textIn, MayWrite, batchBy, valuesAndFlags, endsAndBytes};
 
 // Opens a block of `rows` rows. The refusals come in the order of document 01.
 pub fn open(kind: usize, encoding: usize, width: usize, rows: usize, block: &[u8]) -> Opened
@@ -472,7 +472,7 @@ impl Reader {
     // Looks at the next `n` rows, by their counts, ends and keys.
     fn look(self, parts: Parts, block: &[u8], n: usize) -> Weighed
         requires { ⌜ Serves parts self (now block) n ⌝ }
-        ensures { λ r. ⌜ r ≡ weighedBy (goodBy (parts .source) (marksIn parts (now (block .entry))) (itemsIn parts (now (block .entry)))) (sizeBy (parts .source) (marksIn parts (now (block .entry))) (itemsIn parts (now (block .entry)))) (stepsBy parts self (now (block .entry)) n) ⌝ }
+        ensures { λ r. ⌜ r ≡ weighedBy (goodIn parts (now (block .entry))) (sizeIn parts (now (block .entry))) (stepsBy parts self (now (block .entry)) n) ⌝ }
     {
         let source = parts.source;
         let from = self.spot(source.coded);
@@ -490,8 +490,8 @@ impl Reader {
 
     // Writes the values of the next `n` rows of a fixed kind.
     fn write_values(self, p: Primitive, parts: Parts, block: &[u8], n: usize, values: &mut [i64])
-        requires { ⌜ Serves parts self (now block) n × (parts .source .kind ≡ Fixed p) × Writes (goodBy (parts .source) (marksIn parts (now block)) (itemsIn parts (now block))) (stepsBy parts self (now block) n) n (length (now values)) ⌝ }
-        ensures { λ _. ⌜ now (values .exit) ≡ sets (now (values .entry)) 0 (map (intBy (parts .source) (marksIn parts (now (block .entry))) (itemsIn parts (now (block .entry)))) (runsOf (stepsBy parts self (now (block .entry)) n))) ⌝ }
+        requires { ⌜ Serves parts self (now block) n × (parts .source .kind ≡ Fixed p) × MayWrite parts self (now block) n (length (now values)) ⌝ }
+        ensures { λ _. ⌜ now (values .exit) ≡ sets (now (values .entry)) 0 (map (valueIn parts (now (block .entry))) (runsOf (stepsBy parts self (now (block .entry)) n))) ⌝ }
     {
         let source = parts.source;
         let from = self.spot(source.coded);
@@ -518,8 +518,8 @@ impl Reader {
 
     // Writes the flags of the next `n` rows: 1 where there are no marks.
     fn write_flags(self, parts: Parts, block: &[u8], n: usize, flags: &mut [u8])
-        requires { ⌜ Serves parts self (now block) n × Writes (goodBy (parts .source) (marksIn parts (now block)) (itemsIn parts (now block))) (stepsBy parts self (now block) n) n (length (now flags)) ⌝ }
-        ensures { λ _. ⌜ now (flags .exit) ≡ sets (now (flags .entry)) 0 (map (flagBy (parts .source) (marksIn parts (now (block .entry))) (itemsIn parts (now (block .entry)))) (runsOf (stepsBy parts self (now (block .entry)) n))) ⌝ }
+        requires { ⌜ Serves parts self (now block) n × MayWrite parts self (now block) n (length (now flags)) ⌝ }
+        ensures { λ _. ⌜ now (flags .exit) ≡ sets (now (flags .entry)) 0 (map (flagIn parts (now (block .entry))) (runsOf (stepsBy parts self (now (block .entry)) n))) ⌝ }
     {
         let source = parts.source;
         let by = source.marks;
@@ -532,8 +532,8 @@ impl Reader {
 
     // The same from a bitmap. Rows that are not coded by runs are a bit each.
     fn write_bits(self, parts: Parts, block: &[u8], n: usize, flags: &mut [u8])
-        requires { ⌜ Serves parts self (now block) n × Writes (goodBy (parts .source) (marksIn parts (now block)) (itemsIn parts (now block))) (stepsBy parts self (now block) n) n (length (now flags)) × (parts .source .marks ≡ Bits) ⌝ }
-        ensures { λ _. ⌜ now (flags .exit) ≡ sets (now (flags .entry)) 0 (map (flagBy (parts .source) (marksIn parts (now (block .entry))) (itemsIn parts (now (block .entry)))) (runsOf (stepsBy parts self (now (block .entry)) n))) ⌝ }
+        requires { ⌜ Serves parts self (now block) n × MayWrite parts self (now block) n (length (now flags)) × (parts .source .marks ≡ Bits) ⌝ }
+        ensures { λ _. ⌜ now (flags .exit) ≡ sets (now (flags .entry)) 0 (map (flagIn parts (now (block .entry))) (runsOf (stepsBy parts self (now (block .entry)) n))) ⌝ }
     {
         let source = parts.source;
         if source.coded {
@@ -548,8 +548,8 @@ impl Reader {
 
     // The same run by run.
     fn write_marks(self, parts: Parts, block: &[u8], n: usize, flags: &mut [u8])
-        requires { ⌜ Serves parts self (now block) n × Writes (goodBy (parts .source) (marksIn parts (now block)) (itemsIn parts (now block))) (stepsBy parts self (now block) n) n (length (now flags)) ⌝ }
-        ensures { λ _. ⌜ now (flags .exit) ≡ sets (now (flags .entry)) 0 (map (flagBy (parts .source) (marksIn parts (now (block .entry))) (itemsIn parts (now (block .entry)))) (runsOf (stepsBy parts self (now (block .entry)) n))) ⌝ }
+        requires { ⌜ Serves parts self (now block) n × MayWrite parts self (now block) n (length (now flags)) ⌝ }
+        ensures { λ _. ⌜ now (flags .exit) ≡ sets (now (flags .entry)) 0 (map (flagIn parts (now (block .entry))) (runsOf (stepsBy parts self (now (block .entry)) n))) ⌝ }
     {
         let source = parts.source;
         let from = self.spot(source.coded);
@@ -575,9 +575,9 @@ impl Reader {
 
     // Writes the bytes and the ends of the next `n` rows of char or blob.
     fn write_texts(self, parts: Parts, block: &[u8], n: usize, ends: &mut [u32], bytes: &mut [u8])
-        requires { ⌜ Serves parts self (now block) n × Writes (goodBy (parts .source) (marksIn parts (now block)) (itemsIn parts (now block))) (stepsBy parts self (now block) n) n (length (now ends)) × (sumOf (sizeBy (parts .source) (marksIn parts (now block)) (itemsIn parts (now block))) (runsOf (stepsBy parts self (now block) n)) ≤ length (now bytes)) × (sumOf (sizeBy (parts .source) (marksIn parts (now block)) (itemsIn parts (now block))) (runsOf (stepsBy parts self (now block) n)) < 2 ^ 32) ⌝ }
-        ensures { λ _. ⌜ now (ends .exit) ≡ sets (now (ends .entry)) 0 (endsFrom 0 (map (textBy (parts .source) (marksIn parts (now (block .entry))) (itemsIn parts (now (block .entry)))) (runsOf (stepsBy parts self (now (block .entry)) n)))) ⌝ }
-        ensures { λ _. ⌜ now (bytes .exit) ≡ sets (now (bytes .entry)) 0 (joined (textBy (parts .source) (marksIn parts (now (block .entry))) (itemsIn parts (now (block .entry)))) (runsOf (stepsBy parts self (now (block .entry)) n))) ⌝ }
+        requires { ⌜ Serves parts self (now block) n × MayWrite parts self (now block) n (length (now ends)) × (sumOf (sizeIn parts (now block)) (runsOf (stepsBy parts self (now block) n)) ≤ length (now bytes)) × (sumOf (sizeIn parts (now block)) (runsOf (stepsBy parts self (now block) n)) < 2 ^ 32) ⌝ }
+        ensures { λ _. ⌜ now (ends .exit) ≡ sets (now (ends .entry)) 0 (endsFrom 0 (map (textIn parts (now (block .entry))) (runsOf (stepsBy parts self (now (block .entry)) n)))) ⌝ }
+        ensures { λ _. ⌜ now (bytes .exit) ≡ sets (now (bytes .entry)) 0 (joined (textIn parts (now (block .entry))) (runsOf (stepsBy parts self (now (block .entry)) n))) ⌝ }
     {
         let source = parts.source;
         let from = self.spot(source.coded);
