@@ -286,38 +286,41 @@ def counts_of(r, b):
     return block[8:8 + r.counts]
 
 
-def advance(r, b, n):
-    """The places of the next n rows, and the reader after them."""
+def row_by_row(r, b, n):
+    """Where the next n rows lie, as pairs of a place and the number of rows there, and the reader after them."""
     if r.encoding < 2:
-        return list(range(r.place, r.place + n)), r.copy(place=r.place + n)
-    places, counts = [], counts_of(r, b)
+        return [(i, 1) for i in range(r.place, r.place + n)], r.copy(place=r.place + n)
+    pieces, counts = [], counts_of(r, b)
     for _ in range(n):
         here, r = step(r, counts)
-        places.append(here)
-    return places, r
-
-
-def pass_over(r, b, n):
-    """The reader n rows later, whole runs at a time."""
-    if r.encoding < 2:
-        return r.copy(place=r.place + n)
-    counts = counts_of(r, b)
-    while n:
-        _, after = step(r, counts)
-        whole = count_at(counts, after.at if after.run == r.run else r.at) if after.taken else None
-        if whole and n - 1 > whole[0] - after.taken:
-            rest = whole[0] - after.taken
-            r = after.copy(place=after.place + rest, run=after.run + 1, at=after.at + whole[1], taken=0)
-            n -= 1 + rest
-        elif whole:
-            more = n - 1
-            r = after.copy(place=after.place + more, taken=after.taken + more)
-            if r.taken == whole[0]:
-                r = r.copy(run=r.run + 1, at=r.at + whole[1], taken=0)
-            n = 0
+        if pieces and pieces[-1][0] == here:
+            pieces[-1] = (here, pieces[-1][1] + 1)
         else:
-            r, n = after, n - 1
-    return r
+            pieces.append((here, 1))
+    return pieces, r
+
+
+def run_by_run(r, b, n):
+    """The same for any number of rows, a run at a time."""
+    if r.encoding < 2:
+        return row_by_row(r, b, n)
+    pieces, counts = [], counts_of(r, b)
+    run, at, taken, left = r.run, r.at, r.taken, n
+    while left:
+        found = count_at(counts, at) if run < r.runs else None
+        if found is None or found[0] == 0 or found[0] < taken:
+            raise Refused(9)
+        rows = min(left, found[0] - taken)
+        if rows:
+            pieces.append((run, rows))
+        left, taken = left - rows, taken + rows
+        if taken == found[0]:
+            run, at, taken = run + 1, at + found[1], 0
+    return pieces, r.copy(place=r.place + n, run=run, at=at, taken=taken)
+
+
+def advance(r, b, n):
+    return row_by_row(r, b, n) if n <= 4096 else run_by_run(r, b, n)
 
 
 def plain_row(kind, width, n, b, i):
@@ -326,15 +329,16 @@ def plain_row(kind, width, n, b, i):
         value = int.from_bytes(b[i * size:i * size + size], order, signed=kind != 0)
         return int(value != 0) if kind == 0 else value
     if kind == CHAR:
-        return b[i * width:i * width + width].split(b"\0")[0]
+        return bytes(b[i * width:i * width + width]).split(b"\0")[0]
     start = le(b[4 * i - 4:4 * i]) if i else 0
     end = le(b[4 * i:4 * i + 4])
     if start > end or end > len(b) - 4 * n:
         raise Refused(9)
-    return b[4 * n + start:4 * n + end]
+    return bytes(b[4 * n + start:4 * n + end])
 
 
 def row_at(r, b, i):
+    b = memoryview(b)
     if r.encoding in (2, 3, 4):
         n = r.runs
         inner = b[8 + r.counts:]
@@ -361,7 +365,7 @@ def skip(r, b, n):
         raise Refused(9)
     if n > r.rows - r.place:
         raise Refused(7)
-    return pass_over(r, b, n)
+    return advance(r, b, n)[1]
 
 
 def remaining(r):
@@ -376,25 +380,18 @@ def batch(r, b, size, values, flags, ends, data):
         raise Refused(6)
     if contradicts(r) or len(b) != r.len:
         raise Refused(9)
-    places, after = advance(r, b, min(size, r.rows - r.place))
-    cache = {}
-    rows = []
-    for i in places:
-        if i not in cache:
-            cache[i] = row_at(r, b, i)
-        rows.append(cache[i])
-    n = len(rows)
-    if n > len(flags):
+    n = min(size, r.rows - r.place)
+    pieces, after = advance(r, b, n)
+    found = [(row_at(r, b, i), count) for i, count in pieces]
+    total = 0 if r.kind in FIXED else sum(len(x or b"") * count for x, count in found)
+    if n > len(flags) or total > 2**32 - 1:
         raise Refused(4)
-    total = 0
+    if n > len(values if r.kind in FIXED else ends) or total > len(data):
+        raise Refused(4)
+    rows = [x for x, count in found for _ in range(count)]
     if r.kind in FIXED:
-        if n > len(values):
-            raise Refused(4)
         values[:n] = [x or 0 for x in rows]
     else:
-        total = sum(len(x or b"") for x in rows)
-        if n > len(ends) or total > len(data) or total > 2**32 - 1:
-            raise Refused(4)
         at = 0
         for i, x in enumerate(rows):
             data[at:at + len(x or b"")] = x or b""

@@ -1,0 +1,468 @@
+// Runs the commands of standard input on blocks and readers, and writes all that comes back, in hex: numbers, counts, the whole
+// reader and every lent byte. tools/answers.py makes the commands, and by a model of its own the answers (the file stdout).
+//
+// A command is a byte and its numbers. A number below 255 is one byte; any other is the byte 255 and eight bytes, lowest first.
+// 0 puts a block together: the number of parts; for each how often it comes, its length and its bytes.
+// 1 opens it: kind, encoding, width, rows.
+// 2 skips: rows.
+// 3 reads a batch: its size; the lengths of the lent values, flags, ends and bytes.
+// 4 asks for the rows that remain.
+// 5 sets a field of the reader: which one, counted from 0; the number.
+// 6 changes a byte of the block: the place; the byte, as it is.
+// 7 lends the block at another length from here on: the length.
+use block::Opened;
+use block::Reader;
+ghost use mathlib.Core.Path.{_≡_};
+ghost use lib.ListN.{length};
+
+// What stands between two commands: the place in the input, the length of the lent block, the reader.
+struct State {
+    at: usize,
+    len: usize,
+    reader: Reader,
+}
+
+// A number of the input, and the place after it.
+struct Taken {
+    value: usize,
+    next: usize,
+}
+
+// The place after a part of the block: in the input, and in the block.
+struct Places {
+    at: usize,
+    to: usize,
+}
+
+// ---- the input
+
+// The place n further on. It wraps, so that nothing is asked of the input.
+fn past(at: usize, n: usize) -> usize {
+    std::num::wrapping_add_usize(at, n)
+}
+
+// The byte at a place; 0 where there is none.
+fn byte(s: &[u8], at: usize) -> u8 {
+    if s.len() <= at {
+        return 0;
+    }
+    s[at]
+}
+
+fn number(s: &[u8], at: usize) -> Taken {
+    let first = byte(s, at);
+    if first < 255 {
+        return Taken {
+            value: first as usize,
+            next: past(at, 1),
+        };
+    }
+    let value = encode::low8([
+        byte(s, past(at, 1)),
+        byte(s, past(at, 2)),
+        byte(s, past(at, 3)),
+        byte(s, past(at, 4)),
+        byte(s, past(at, 5)),
+        byte(s, past(at, 6)),
+        byte(s, past(at, 7)),
+        byte(s, past(at, 8)),
+    ]);
+    Taken {
+        value: value as usize,
+        next: past(at, 9),
+    }
+}
+
+// ---- writing
+
+fn say(text: &[u8]) {
+    io::write_all(1, text);
+}
+
+fn show(n: u64) {
+    say(b" ");
+    io::print_hex(1, n, 1);
+}
+
+fn show_size(n: usize) {
+    show(n as u64);
+}
+
+fn show_reader(r: Reader) {
+    show_size(r.kind);
+    show_size(r.encoding);
+    show_size(r.width);
+    show_size(r.rows);
+    show_size(r.len);
+    show_size(r.runs);
+    show_size(r.counts);
+    show_size(r.keys);
+    show_size(r.entries);
+    show_size(r.place);
+    show_size(r.run);
+    show_size(r.at);
+    show_size(r.taken);
+}
+
+fn show_end(n: u32) {
+    show(n as u64);
+}
+
+fn show_byte(n: u8) {
+    show(n as u64);
+}
+
+fn show_values(s: &[i64]) {
+    let mut i = 0;
+    while i < s.len() {
+        show(encode::bits_of(s[i]));
+        i += 1;
+    }
+}
+
+fn show_ends(s: &[u32]) {
+    let mut i = 0;
+    while i < s.len() {
+        show_end(s[i]);
+        i += 1;
+    }
+}
+
+fn show_bytes(s: &[u8]) {
+    let mut i = 0;
+    while i < s.len() {
+        show_byte(s[i]);
+        i += 1;
+    }
+}
+
+// ---- blocks
+
+// The bytes of the block that are lent: its first n.
+fn lent(block: &[u8], n: usize) -> &[u8] {
+    if block.len() < n {
+        return block;
+    }
+    &block[0..n]
+}
+
+fn put(block: &mut [u8], to: usize, b: u8) {
+    if to < block.len() {
+        block[to] = b;
+    }
+}
+
+// The n bytes of the input from a place on, into the block.
+fn copy(s: &[u8], at: usize, n: usize, block: &mut [u8], to: usize) {
+    let mut i = 0;
+    while i < n {
+        put(block, past(to, i), byte(s, past(at, i)));
+        i += 1;
+    }
+}
+
+// The same so many times, one after another. What comes back is the place after them.
+fn copies(s: &[u8], at: usize, n: usize, times: usize, block: &mut [u8], to: usize) -> usize {
+    let mut next = to;
+    let mut left = times;
+    while 0 < left {
+        copy(s, at, n, block, next);
+        next = past(next, n);
+        left -= 1;
+    }
+    next
+}
+
+// One part.
+fn part(s: &[u8], from: Places, block: &mut [u8]) -> Places {
+    let times = number(s, from.at);
+    let n = number(s, times.next);
+    Places {
+        at: past(n.next, n.value),
+        to: copies(s, n.next, n.value, times.value, block, from.to),
+    }
+}
+
+// All the parts.
+fn parts(s: &[u8], at: usize, block: &mut [u8]) -> Places {
+    let n = number(s, at);
+    let mut places = Places { at: n.next, to: 0 };
+    let mut left = n.value;
+    while 0 < left {
+        places = part(s, places, block);
+        left -= 1;
+    }
+    places
+}
+
+fn load(s: &[u8], state: State, block: &mut [u8]) -> State {
+    let places = parts(s, state.at, block);
+    say(b"block");
+    show_size(places.to);
+    let mut next = state;
+    next.at = places.at;
+    next.len = places.to;
+    next
+}
+
+fn change(s: &[u8], state: State, block: &mut [u8]) -> State {
+    let place = number(s, state.at);
+    let b = byte(s, place.next);
+    put(block, place.value, b);
+    say(b"change");
+    let mut next = state;
+    next.at = past(place.next, 1);
+    next
+}
+
+fn lend(s: &[u8], state: State) -> State {
+    let n = number(s, state.at);
+    say(b"lend");
+    let mut next = state;
+    next.at = n.next;
+    next.len = n.value;
+    next
+}
+
+// ---- readers
+
+// The reader that stands where there is none: no call takes it.
+fn no_reader() -> Reader {
+    Reader {
+        kind: 255,
+        encoding: 0,
+        width: 0,
+        rows: 0,
+        len: 0,
+        runs: 0,
+        counts: 0,
+        keys: 0,
+        entries: 0,
+        place: 0,
+        run: 0,
+        at: 0,
+        taken: 0,
+    }
+}
+
+fn with(r: Reader, field: usize, value: usize) -> Reader {
+    let mut next = r;
+    match field {
+        0 => next.kind = value,
+        1 => next.encoding = value,
+        2 => next.width = value,
+        3 => next.rows = value,
+        4 => next.len = value,
+        5 => next.runs = value,
+        6 => next.counts = value,
+        7 => next.keys = value,
+        8 => next.entries = value,
+        9 => next.place = value,
+        10 => next.run = value,
+        11 => next.at = value,
+        _ => next.taken = value,
+    }
+    next
+}
+
+fn set(s: &[u8], state: State) -> State {
+    let field = number(s, state.at);
+    let value = number(s, field.next);
+    say(b"set");
+    State {
+        at: value.next,
+        len: state.len,
+        reader: with(state.reader, field.value, value.value),
+    }
+}
+
+fn opened(answer: Opened) -> Reader {
+    say(b"open");
+    match answer {
+        Opened::Open(r) => {
+            show(0);
+            show_reader(r);
+            r
+        }
+        Opened::Refused(number) => {
+            show_byte(number);
+            no_reader()
+        }
+    }
+}
+
+fn open(s: &[u8], state: State, block: &[u8]) -> State {
+    let kind = number(s, state.at);
+    let encoding = number(s, kind.next);
+    let width = number(s, encoding.next);
+    let rows = number(s, width.next);
+    let bytes = lent(block, state.len);
+    let answer = block::open(kind.value, encoding.value, width.value, rows.value, bytes);
+    State {
+        at: rows.next,
+        len: state.len,
+        reader: opened(answer),
+    }
+}
+
+fn skip(s: &[u8], state: State, block: &[u8]) -> State {
+    let n = number(s, state.at);
+    let reader = state.reader;
+    let answer = reader.skip(lent(block, state.len), n.value);
+    say(b"skip");
+    show_byte(answer.number);
+    let after = answer.reader;
+    show_reader(after);
+    State {
+        at: n.next,
+        len: state.len,
+        reader: after,
+    }
+}
+
+fn remaining(state: State) -> State {
+    let reader = state.reader;
+    let answer = reader.remaining();
+    say(b"left");
+    show_byte(answer.number);
+    show_size(answer.rows);
+    state
+}
+
+// Reads into the areas, and shows all of them.
+fn give(
+    r: Reader,
+    block: &[u8],
+    size: usize,
+    values: &mut [i64],
+    flags: &mut [u8],
+    ends: &mut [u32],
+    bytes: &mut [u8],
+) -> Reader {
+    let answer = r.batch(block, size, values, flags, ends, bytes);
+    let after = answer.reader;
+    say(b"batch");
+    show_byte(answer.number);
+    show_size(answer.rows);
+    show_size(answer.bytes);
+    show_reader(after);
+    say(b"\n values");
+    show_values(values);
+    say(b"\n flags");
+    show_bytes(flags);
+    say(b"\n ends");
+    show_ends(ends);
+    say(b"\n bytes");
+    show_bytes(bytes);
+    after
+}
+
+// Lends areas of these lengths, filled with aa. Where one is too long nothing is read.
+fn give_into(
+    r: Reader,
+    block: &[u8],
+    size: usize,
+    values: usize,
+    flags: usize,
+    ends: usize,
+    bytes: usize,
+) -> Reader {
+    if 64 < values {
+        return r;
+    }
+    if 64 < flags {
+        return r;
+    }
+    if 64 < ends {
+        return r;
+    }
+    if 255 < bytes {
+        return r;
+    }
+    let mut v = [0xaai64; 64];
+    let mut f = [0xaau8; 64];
+    let mut e = [0xaau32; 64];
+    let mut b = [0xaau8; 255];
+    give(
+        r,
+        block,
+        size,
+        &mut v[0..values],
+        &mut f[0..flags],
+        &mut e[0..ends],
+        &mut b[0..bytes],
+    )
+}
+
+fn batch(s: &[u8], state: State, block: &[u8]) -> State {
+    let size = number(s, state.at);
+    let values = number(s, size.next);
+    let flags = number(s, values.next);
+    let ends = number(s, flags.next);
+    let bytes = number(s, ends.next);
+    let reader = state.reader;
+    let part = lent(block, state.len);
+    State {
+        at: bytes.next,
+        len: state.len,
+        reader: give_into(
+            reader,
+            part,
+            size.value,
+            values.value,
+            flags.value,
+            ends.value,
+            bytes.value,
+        ),
+    }
+}
+
+// ---- the commands
+
+fn run(s: &[u8], state: State, block: &mut [u8]) -> State {
+    let command = byte(s, state.at);
+    let mut next = state;
+    next.at = past(state.at, 1);
+    match command {
+        0 => load(s, next, block),
+        1 => open(s, next, block),
+        2 => skip(s, next, block),
+        3 => batch(s, next, block),
+        4 => remaining(next),
+        5 => set(s, next),
+        6 => change(s, next, block),
+        _ => lend(s, next),
+    }
+}
+
+// Each command takes a byte at least, so there are no more of them than bytes.
+fn run_all(s: &[u8], block: &mut [u8]) {
+    let mut state = State {
+        at: 0,
+        len: 0,
+        reader: no_reader(),
+    };
+    let mut left = s.len();
+    while 0 < left {
+        if s.len() <= state.at {
+            return;
+        }
+        state = run(s, state, block);
+        say(b"\n");
+        left -= 1;
+    }
+}
+
+// Room for the largest block: 1,048,576 runs over a nullable block of bools.
+fn room() -> [u8; 2300000]
+    ensures { λ r. ⌜ 2300000 ≡ length r ⌝ }
+{
+    [0; 2300000]
+}
+
+fn main() {
+    let mut input = io::large_buffer();
+    let mut block = room();
+    let n = io::read_full(0, &mut input);
+    run_all(&input[..n], &mut block);
+}
