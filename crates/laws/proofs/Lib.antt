@@ -1,1 +1,6 @@
 pub mod Samples
+pub mod Handing
+pub mod Standing
+pub mod Answering
+pub mod Calls
+pub mod Refusing
