@@ -15,9 +15,10 @@ use Rattle.encode.specs.declared.Primitive.{Primitive}
 use Rattle.encode.specs.declared.Kind.{Kind}
 use Rattle.encode.specs.declared.Kind.the-variants.{Fixed, Char, Blob}
 use Rattle.plain.specs.Rows.{Row}
+use Rattle.plain.specs.Plain.{allOf}
 use Rattle.rle.specs.declared.Spot.{Spot}
 use Rattle.rle.specs.Stepping.{Steps, stuck, rows}
-use Rattle.rows.specs.Rows.{rowBy, goodBy, allOf}
+use Rattle.rows.specs.Rows.{rowBy, goodBy}
 use Rattle.format.specs.declared.Encoding.{Encoding}
 use Rattle.format.specs.declared.Column.{Column}
 use Rattle.format.specs.declared.Column.the-variants.{Of, Unknown}

@@ -2,7 +2,7 @@
 use Prim.Native.Nat.{ℕ, zero, suc, _+_, _-_, _*_, _^_, _≤_, _<_}
 use native.Mathlib.Nat.{zero-add, add-zero, add-mul, mul-le-mul-right}
 use native.Mathlib.Omega.{arith}
-use mathlib.Core.Path.{_≡_, refl, sym, ap, _∙_}
+use mathlib.Core.Path.{_≡_, refl, sym, ap, _∙_, fun-ext}
 use mathlib.Core.Bool.{Bool, true, false, cond, _&&_, _||_}
 use mathlib.Core.List.{List, [], _∷_, _++_, map}
 use lib.Dec.{ltb, eqb}
@@ -17,7 +17,7 @@ use Rattle.encode.specs.declared.Primitive.{Primitive}
 use Rattle.encode.specs.declared.Kind.{Kind}
 use Rattle.encode.specs.declared.Kind.the-variants.{Fixed, Char, Blob}
 use Rattle.plain.specs.Rows.{Row, null, bytes, intIn, bytesIn}
-use Rattle.plain.specs.Plain.{places, joined, endsFrom, fixedAt, plainRow, leastBytes, endsGood}
+use Rattle.plain.specs.Plain.{allOf, places, joined, endsFrom, fixedAt, plainRow, leastBytes, endsGood}
 use Rattle.plain.proofs.Places.{length-over, getD-over, over-same, over-shift}
 use Rattle.nullable.specs.Nullable.{bitAt, presence}
 use Rattle.nullable.specs.Blanks.{blankAt}
@@ -31,7 +31,7 @@ use Rattle.rows.specs.declared.Marks.{Marks}
 use Rattle.rows.specs.declared.Marks.the-variants.{Bare, Bits, Keys}
 use Rattle.rows.specs.declared.Source.{Source}
 use Rattle.rows.specs.declared.Weighed.the-variants.{Total, Stuck}
-use Rattle.rows.specs.Rows.{shownBy, seenBy, mostBy, rowBy, textBy, sizeBy, intBy, flagBy, goodBy, allOf, sumOf, capped, weighedBy, Writes, markBytes, startsBy}
+use Rattle.rows.specs.Rows.{shownBy, seenBy, mostBy, rowBy, textBy, sizeBy, intBy, flagBy, goodBy, sumOf, capped, weighedBy, Writes, Texts, markBytes, startsBy}
 use Rattle.rows.proofs.Folds.{length-joined, length-ends}
 use Rattle.block.specs.declared.Reader.{Reader}
 use Rattle.block.specs.declared.Given.{Given}
@@ -363,6 +363,11 @@ module _ (s : Source) (marks items : List ℕ) (q : Primitive) (fixed : s .kind 
           bit false = refl
       go Keys z = absurd (z refl)
 
+  -- where there are no marks, an item is a value
+  bare-value : s .marks ≡ Bare → fixedAt q items i ≡ intBy s marks items i
+  unfolding intBy rowBy shownBy entryRow plainRow intIn
+  bare-value e = rw (fixed, e)
+
 module _ (p : Parts) (r : Reader) (b : List ℕ) (n : ℕ) (s : Serves p r b n) (c : p .source .coded ≡ false) (q : Primitive) (fixed : p .source .kind ≡ Fixed q) where
   pub items-good : allOf (goodBy (p .source) (marksIn p b) (itemsIn p b)) (places n (r .place)) ≡ true
   items-good = all-places _ (p .source .items) n (r .place) (s .inside c) (λ j h. item-good (p .source) (marksIn p b) (itemsIn p b) q fixed (s .keyed c) j h)
@@ -399,6 +404,11 @@ module _ (p : Parts) (r : Reader) (b : List ℕ) (n : ℕ) (s : Serves p r b n) 
       let w : runsOf (stepsBy p r b n) ≡ places n (r .place) = alone-runs p r b n c in
       blanked vs v₁ v₂ fs f₁ hv hf ev (ef ∙ ap (λ (l : List ℕ). sets fs 0 (map (flagBy (p .source) (marksIn p b) (itemsIn p b)) l)) w) e ∙ ap (λ (l : List ℕ). sets vs 0 (map (intBy (p .source) (marksIn p b) (itemsIn p b)) l)) (sym w)
 
+  pub bare-runs : p .source .marks ≡ Bare → (vs v₁ : List ℤ) → v₁ ≡ sets vs 0 (map (fixedAt q (itemsIn p b)) (places n (r .place))) → v₁ ≡ sets vs 0 (map (intBy (p .source) (marksIn p b) (itemsIn p b)) (runsOf (stepsBy p r b n)))
+  bare-runs e vs v₁ h =
+      let g : fixedAt q (itemsIn p b) ≡ intBy (p .source) (marksIn p b) (itemsIn p b) = fun-ext (λ i. bare-value (p .source) (marksIn p b) (itemsIn p b) q fixed (s .keyed c) i e) in
+      rw (alone-runs p r b n c, ← g) h
+
 -- rows that are not coded by runs leave the place in the runs alone, whatever it is said to be
 pub moved-any : (r : Reader) (n : ℕ) (t u : Spot) → movedBy false r n t ≡ movedBy false r n u
 unfolding movedBy
@@ -414,6 +424,12 @@ told-texts g h e = (h ∙ ap (λ (z : Batch). z .answer) e, (ap (λ (z : Batch).
 pub is-fixed : (k : Kind) (q : Primitive) → k ≡ Fixed q → isBytes k ≡ false
 unfolding isBytes
 is-fixed k q e = rw e
+
+pub is-text : (k : Kind) → isBytes k ≡ true → Texts k
+unfolding isBytes Texts
+is-text (Fixed p) h = let z : _≡_ {A = ℕ} 0 1 = cc in absurd (omega arith)
+is-text (Char w) h = tt
+is-text Blob h = tt
 
 -- where reading stands after rows that are coded by runs, and after others
 pub spot-coded : (c : Bool) (r : Reader) (n : ℕ) (t : Spot) → movedBy c r n t ≡ moved r n (spotBy c r t)

@@ -15,18 +15,19 @@ use Rattle.rle.specs.Stepping.{spot, Steps, stuck, rows, leave, one, andThen, h
 use Rattle.rle.specs.Pieces.{stepsIn}
 use Rattle.rle.proofs.Laws.{Below, in-below}
 use Rattle.rle.proofs.Folds.{map-below}
+use Rattle.plain.specs.Plain.{allOf}
 use Rattle.dict.specs.Dictionary.{keyPart}
 use Rattle.nullable.specs.Nullable.{bitmapLength}
 use Rattle.rows.specs.declared.Marks.{Marks}
 use Rattle.rows.specs.declared.Marks.the-variants.{Bare, Bits, Keys}
 use Rattle.rows.specs.declared.Source.{Source}
-use Rattle.rows.specs.Rows.{mostBy, rowBy, goodBy, allOf, startsBy, Starts}
+use Rattle.rows.specs.Rows.{mostBy, rowBy, goodBy, startsBy, Starts}
 use Rattle.format.specs.declared.Encoding.{Encoding}
 use Rattle.format.specs.declared.Encoding.the-variants.{Plain, Nullable, RunLength, RunLengthNullable, Dictionary}
 use Rattle.format.specs.Opening.{countsIn, rowAt}
 use Rattle.block.specs.declared.Reader.{Reader}
 use Rattle.block.specs.declared.Parts.{Parts}
-use Rattle.block.specs.Reading.{noRuns, headKept, spotOf, nextSteps, rowGood, allGood, Areas, batchOf}
+use Rattle.block.specs.Reading.{noRuns, headKept, spotOf, nextSteps, rowGood, Areas, batchOf}
 use Rattle.block.specs.Parts as P
 use Rattle.block.specs.Parts.{part, partsOf, partIn, startOf, spotBy, stepsBy, marksIn, itemsIn, Serves, batchBy}
 use Rattle.block.proofs.Record.{apart, Right, Runs, plain-fits, nullable-fits, runs-of, null-runs-of, key-runs-of, keys-fit, none-there}
@@ -218,8 +219,8 @@ module _ (k : Kind) (r : Reader) (b : List ℕ) (n : ℕ) (long : length b ≡ r
 
 -- ---- a batch
 module _ (f g : ℕ → Bool) (m : ℕ) (same : (i : ℕ) → i < m → f i ≡ g i) where
-  all-same : (is : List ℕ) → Below m is → allGood f is ≡ allOf g is
-  unfolding allGood allOf
+  all-same : (is : List ℕ) → Below m is → allOf f is ≡ allOf g is
+  unfolding allOf
   all-same [] h = refl
   all-same (i ∷ is) h = rw (same i (h .0), all-same is (h .1))
 

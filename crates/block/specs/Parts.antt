@@ -6,6 +6,7 @@ use mathlib.Core.List.{List, [], map}
 use lib.IntN.{ℤ}
 use lib.ListN.{length, take, drop}
 use Rattle.encode.specs.declared.Kind.{Kind}
+use Rattle.plain.specs.Plain.{allOf}
 use Rattle.nullable.specs.Nullable.{bitmapLength}
 use Rattle.rle.specs.declared.Spot.{Spot}
 use Rattle.rle.specs.Stepping.{spot, Steps, stuck, rows}
@@ -13,7 +14,7 @@ use Rattle.rle.specs.Pieces.{stepsIn}
 use Rattle.rows.specs.declared.Marks.{Marks}
 use Rattle.rows.specs.declared.Marks.the-variants.{Bare, Bits, Keys}
 use Rattle.rows.specs.declared.Source.{Source}
-use Rattle.rows.specs.Rows.{rowBy, goodBy, sizeBy, intBy, flagBy, textBy, allOf, Ready, Starts, Writes}
+use Rattle.rows.specs.Rows.{rowBy, goodBy, sizeBy, intBy, flagBy, textBy, Ready, Starts, Writes}
 use Rattle.format.specs.declared.Encoding.{Encoding}
 use Rattle.format.specs.declared.Encoding.the-variants.{Plain, Nullable, RunLength, RunLengthNullable, Dictionary}
 use Rattle.block.specs.declared.Reader.{Reader}

@@ -2,7 +2,7 @@
 -- record and every block. What is read is said row by row. Assumes nothing.
 use Prim.Native.Nat.{ℕ, zero, suc, _+_, _-_, _*_, min}
 use mathlib.Core.Bool.{Bool, true, false, cond, not, _&&_, _||_}
-use mathlib.Core.List.{List, [], _∷_, map}
+use mathlib.Core.List.{List, map}
 use lib.Dec.{ltb, leb, eqb}
 use lib.IntN.{ℤ}
 use lib.ListN.{length}
@@ -10,7 +10,7 @@ use Rattle.area.specs.Area.{over}
 use Rattle.encode.specs.declared.Kind.{Kind}
 use Rattle.encode.specs.declared.Kind.the-variants.{Fixed, Char, Blob}
 use Rattle.plain.specs.Rows.{Row, intIn, bytesIn}
-use Rattle.plain.specs.Plain.{places, joined, endsFrom, leastBytes, endsGood}
+use Rattle.plain.specs.Plain.{allOf, places, joined, endsFrom, leastBytes, endsGood}
 use Rattle.nullable.specs.Nullable.{bitmapLength, presence, plainPart}
 use Rattle.rle.specs.declared.Spot.{Spot}
 use Rattle.rle.specs.RunLength.{innerPart}
@@ -159,10 +159,6 @@ rowGood k RunLengthNullable r b i = endsGood k (r .runs) (plainPart (r .runs) (i
 rowGood k Dictionary r b i =
     entryGood k (r .entries) (entriesPart (r .keys) b) (slotAt (innerPart (r .counts) (keyPart (r .keys) b)) i)
 
-unfoldable pub allGood : (ℕ → Bool) → List ℕ → Bool
-allGood good [] = true
-allGood good (i ∷ is) = good i && allGood good is
-
 -- the four lent areas, and what a batch comes to: its answer and what they then hold
 pub record Areas : Type 0 where
   pub values : List ℤ
@@ -222,7 +218,7 @@ give k r rs t a =
 unfoldable pub batchOf : Kind → Encoding → Reader → List ℕ → Areas → Steps → Batch
 batchOf k e r b a stuck = refusedBatch 9 r a
 batchOf k e r b a (rows is t) =
-    cond (allGood (rowGood k e r b) is) (give k r (map (rowAt k e (r .rows) (headKept r) b) is) t a) (refusedBatch 9 r a)
+    cond (allOf (rowGood k e r b) is) (give k r (map (rowAt k e (r .rows) (headKept r) b) is) t a) (refusedBatch 9 r a)
 
 -- 6; 9 for the length, the record and the fields of all rows given; 4. A batch gives min(size, remaining) rows.
 unfoldable pub batchedIn : Column → Reader → List ℕ → ℕ → Areas → Batch

@@ -30,12 +30,14 @@ pub enum Opened {
 }
 
 // What a skip answers: 0, or a refusal with the reader as it was.
+#[repr(C)]
 pub struct Skipped {
     pub number: u8,
     pub reader: Reader,
 }
 
 // What a batch answers: the rows given and, for char and blob, the bytes written.
+#[repr(C)]
 pub struct Given {
     pub number: u8,
     pub rows: usize,
@@ -44,6 +46,7 @@ pub struct Given {
 }
 
 // What asking for the remaining rows answers.
+#[repr(C)]
 pub struct Left {
     pub number: u8,
     pub rows: usize,

@@ -575,7 +575,7 @@ impl Reader {
 
     // Writes the bytes and the ends of the next `n` rows of char or blob.
     fn write_texts(self, parts: Parts, block: &[u8], n: usize, ends: &mut [u32], bytes: &mut [u8])
-        requires { ⌜ Serves parts self (now block) n × MayWrite parts self (now block) n (length (now ends)) × (sumOf (sizeIn parts (now block)) (runsOf (stepsBy parts self (now block) n)) ≤ length (now bytes)) × (sumOf (sizeIn parts (now block)) (runsOf (stepsBy parts self (now block) n)) < 2 ^ 32) ⌝ }
+        requires { ⌜ Serves parts self (now block) n × MayWrite parts self (now block) n (length (now ends)) × (sumOf (sizeIn parts (now block)) (runsOf (stepsBy parts self (now block) n)) ≤ length (now bytes)) × (sumOf (sizeIn parts (now block)) (runsOf (stepsBy parts self (now block) n)) < 2 ^ 32) × (isBytes (parts .source .kind) ≡ true) ⌝ }
         ensures { λ _. ⌜ now (ends .exit) ≡ sets (now (ends .entry)) 0 (endsFrom 0 (map (textIn parts (now (block .entry))) (runsOf (stepsBy parts self (now (block .entry)) n)))) ⌝ }
         ensures { λ _. ⌜ now (bytes .exit) ≡ sets (now (bytes .entry)) 0 (joined (textIn parts (now (block .entry))) (runsOf (stepsBy parts self (now (block .entry)) n))) ⌝ }
     {
@@ -602,6 +602,34 @@ impl Reader {
         );
     }
 
+    // Writes the values and the flags of the next `n` rows of a fixed kind that are not coded by runs: all items, and then 0 over
+    // those that are null.
+    fn write_items(
+        self,
+        p: Primitive,
+        parts: Parts,
+        block: &[u8],
+        n: usize,
+        values: &mut [i64],
+        flags: &mut [u8],
+    )
+        requires { ⌜ Serves parts self (now block) n × (parts .source .kind ≡ Fixed p) × (parts .source .coded ≡ false) × (n ≤ length (now values)) × (n ≤ length (now flags)) ⌝ }
+        ensures { λ _. ⌜ now (values .exit) ≡ sets (now (values .entry)) 0 (map (valueIn parts (now (block .entry))) (runsOf (stepsBy parts self (now (block .entry)) n))) ⌝ }
+        ensures { λ _. ⌜ now (flags .exit) ≡ sets (now (flags .entry)) 0 (map (flagIn parts (now (block .entry))) (runsOf (stepsBy parts self (now (block .entry)) n))) ⌝ }
+    {
+        let items = parts.items;
+        let i = items.from;
+        let j = items.to;
+        plain::values(p, &block[i..j], self.place, n, values);
+        self.write_flags(parts, block, n, flags);
+        let source = parts.source;
+        let by = source.marks;
+        if let Marks::Bare = by {
+            return;
+        }
+        nullable::blank(flags, n, values);
+    }
+
     // Rows of a fixed kind that are not coded by runs: there is nothing to look at, and no loop asks for the kind.
     fn give_items(
         self,
@@ -623,12 +651,7 @@ impl Reader {
         if flags.len() < n {
             return refused(4, self);
         }
-        let items = parts.items;
-        let i = items.from;
-        let j = items.to;
-        plain::values(p, &block[i..j], self.place, n, values);
-        self.write_flags(parts, block, n, flags);
-        nullable::blank(flags, n, values);
+        self.write_items(p, parts, block, n, values, flags);
         let t = self.spot(true);
         Given {
             number: 0,

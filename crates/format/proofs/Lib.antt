@@ -5,3 +5,4 @@ pub mod RunBlocks
 pub mod KeyBlocks
 pub mod Dictionaries
 pub mod ByEncoding
+pub mod Forms

@@ -14,6 +14,7 @@ use Rattle.encode.specs.declared.Kind.{Kind}
 use Rattle.encode.specs.declared.Kind.the-variants.{Fixed, Char, Blob}
 use Rattle.plain.specs.Rows.{Row, null, int, bytes, intIn, bytesIn}
 use Rattle.plain.specs.Plain.{places, joined, endsFrom, plainRow}
+use Rattle.plain.proofs.Ends.{length-ends}
 use Rattle.plain.proofs.Places.{length-over, getD-over}
 use Rattle.nullable.specs.Nullable.{presence, bitAt, bitmapPart, plainPart, nullableRow}
 use Rattle.dict.specs.Dictionary.{entryRow, slotAt, keyPart, entriesPart}
@@ -50,11 +51,6 @@ module _ where
   end-at [] o i h = absurd (omega arith)
   end-at (r ∷ rs) o zero h = rw zero-add
   end-at (r ∷ rs) o (suc i) h = simp length-append (omega (arith, end-at rs (o + length (bytesIn r)) i (omega arith)))
-
-  length-ends : (o : ℕ) (xs : List (List ℕ)) → length (endsFrom o xs) ≡ length xs
-  unfolding endsFrom
-  length-ends o [] = refl
-  length-ends o (x ∷ xs) = ap suc (length-ends (o + length x) xs)
 
   bytes-at : (rs : List Row) (rest : List ℕ) (i : ℕ) → i < length rs
       → take (long rs i) (drop (start rs i) (joined bytesIn rs ++ rest)) ≡ bytesIn (getD rs i null)

@@ -4,3 +4,5 @@ pub mod Standing
 pub mod Answering
 pub mod Calls
 pub mod Refusing
+pub mod Consequences
+pub mod Ours

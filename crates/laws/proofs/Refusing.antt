@@ -7,7 +7,7 @@ use lib.Dec.{ltb, eqb}
 use lib.ListN.{length}
 use Rattle.encode.specs.declared.Kind.{Kind}
 use Rattle.plain.specs.Rows.{Row, bytesIn}
-use Rattle.plain.specs.Plain.{joined}
+use Rattle.plain.specs.Plain.{allOf, joined}
 use Rattle.rle.specs.declared.Spot.{Spot}
 use Rattle.rle.specs.Stepping.{Steps, stuck, rows}
 use Rattle.format.specs.declared.Encoding.{Encoding}
@@ -18,7 +18,7 @@ use Rattle.format.specs.Opening.{rowAt}
 use Rattle.block.specs.declared.Reader.{Reader}
 use Rattle.block.specs.declared.Skipped.{Skipped}
 use Rattle.block.specs.Reading.{wrong, headKept, nextSteps, moved, skipTo, skipOver, skippedIn, skipped}
-use Rattle.block.specs.Reading.{Areas, Batch, isBytes, rowGood, allGood, short, filledIn, refusedBatch, give, batchOf, batchedIn, batched}
+use Rattle.block.specs.Reading.{Areas, Batch, isBytes, rowGood, short, filledIn, refusedBatch, give, batchOf, batchedIn, batched}
 
 module _ (r : Reader) (b : List ℕ) where
   -- ---- skip
@@ -72,7 +72,7 @@ module _ (r : Reader) (b : List ℕ) where
     rows-kept : (k : Kind) (e : Encoding) (w : Steps) → KeptByBatch (batchOf k e r b a w)
     unfolding batchOf
     rows-kept k e stuck = λ h. refl
-    rows-kept k e (rows is t) = go (allGood (rowGood k e r b) is)
+    rows-kept k e (rows is t) = go (allOf (rowGood k e r b) is)
       where
         rs : List Row
         rs = map (rowAt k e (r .rows) (headKept r) b) is

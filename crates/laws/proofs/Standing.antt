@@ -11,7 +11,7 @@ use lib.ListN.{length, take, drop, length-drop}
 use lib.Seq.{take-at, drop-at, length-take-le}
 use borrow.Author.Tests.{lt-ltb, le-ltb, eq-eqb}
 use Rattle.encode.specs.declared.Kind.{Kind}
-use Rattle.plain.specs.Plain.{places, plainNumber, leastBytes, endsGood}
+use Rattle.plain.specs.Plain.{allOf, places, plainNumber, leastBytes, endsGood}
 use Rattle.plain.proofs.Numbers.{plain-least, plain-good}
 use Rattle.plain.proofs.Places.{length-places, places-add}
 use Rattle.nullable.specs.Nullable.{bitmapLength, plainPart, nullableNumber}
@@ -32,31 +32,31 @@ use Rattle.format.specs.Opening.{headOf, countsIn, placesOf, mostRows, columnNu
 use Rattle.format.proofs.Sound.{Within, NoRuns, SomeRuns, SoundRuns, column-sound}
 use Rattle.format.proofs.Sound.{plain-sound, nullable-sound, run-length-sound, run-length-nullable-sound, keys-sound}
 use Rattle.block.specs.declared.Reader.{Reader}
-use Rattle.block.specs.Reading.{readerAt, noRuns, partOutside, runsWrong, headWrong, wrong, headKept, spotOf, nextSteps, moved, rowGood, allGood}
+use Rattle.block.specs.Reading.{readerAt, noRuns, partOutside, runsWrong, headWrong, wrong, headKept, spotOf, nextSteps, moved, rowGood}
 use Rattle.block.specs.Calls.{columnIn}
 use Rattle.block.proofs.Record.{Right, runs-of, null-runs-of, key-runs-of, entries-few, both}
 
 -- ---- rule 14 and rule 15 of some rows
 module _ (good : ℕ → Bool) where
-  each-good : (n : ℕ) → ((i : ℕ) → i < n → good i ≡ true) → (is : List ℕ) → Below n is → allGood good is ≡ true
-  unfolding allGood
+  each-good : (n : ℕ) → ((i : ℕ) → i < n → good i ≡ true) → (is : List ℕ) → Below n is → allOf good is ≡ true
+  unfolding allOf
   each-good n h [] l = refl
   each-good n h (i ∷ is) l = rw (h i (l .0)) (each-good n h is (l .1))
 
-  pub take-good : (m : ℕ) (is : List ℕ) → allGood good is ≡ true → allGood good (take m is) ≡ true
-  unfolding allGood
+  pub take-good : (m : ℕ) (is : List ℕ) → allOf good is ≡ true → allOf good (take m is) ≡ true
+  unfolding allOf
   take-good zero is h = refl
   take-good (suc m) [] h = refl
-  take-good (suc m) (i ∷ is) h = let p = both (good i) (allGood good is) h in rw (p .0) (take-good m is (p .1))
+  take-good (suc m) (i ∷ is) h = let p = both (good i) (allOf good is) h in rw (p .0) (take-good m is (p .1))
 
-  drop-good : (m : ℕ) (is : List ℕ) → allGood good is ≡ true → allGood good (drop m is) ≡ true
-  unfolding allGood
+  drop-good : (m : ℕ) (is : List ℕ) → allOf good is ≡ true → allOf good (drop m is) ≡ true
+  unfolding allOf
   drop-good zero is h = h
   drop-good (suc m) [] h = refl
-  drop-good (suc m) (i ∷ is) h = drop-good m is (both (good i) (allGood good is) h .1)
+  drop-good (suc m) (i ∷ is) h = drop-good m is (both (good i) (allOf good is) h .1)
 
-same-good : (f g : ℕ → Bool) → ((i : ℕ) → f i ≡ g i) → (is : List ℕ) → allGood f is ≡ allGood g is
-unfolding allGood
+same-good : (f g : ℕ → Bool) → ((i : ℕ) → f i ≡ g i) → (is : List ℕ) → allOf f is ≡ allOf g is
+unfolding allOf
 same-good f g h [] = refl
 same-good f g h (i ∷ is) = rw (h i, same-good f g h is)
 
@@ -82,7 +82,7 @@ pub record Stands (k : Kind) (e : Encoding) (n : ℕ) (b : List ℕ) (r : Reader
   pub end : Spot
   pub left : nextSteps e r b (length is) ≡ rows is end
   pub count : length is ≡ r .rows - r .place
-  pub good : allGood (rowGood k e r b) is ≡ true
+  pub good : allOf (rowGood k e r b) is ≡ true
 
 -- nothing contradicts
 pub not-wrong : (k : Kind) (e : Encoding) (r : Reader) → Right k e r → wrong k e r ≡ false
@@ -212,7 +212,7 @@ record Starts (k : Kind) (e : Encoding) (n : ℕ) (b : List ℕ) (r : Reader) (i
   end : Spot
   all : length is ≡ n
   left : nextSteps e r b n ≡ rows is end
-  good : allGood (rowGood k e r b) is ≡ true
+  good : allOf (rowGood k e r b) is ≡ true
 
 inner-long : (c : ℕ) (b : List ℕ) → length (innerPart c b) ≡ length b - (8 + c)
 unfolding innerPart

@@ -2,7 +2,7 @@
 -- Assumes nothing.
 use mathlib.Core.Path.{_≡_, refl, sym, ap, _∙_}
 use mathlib.Core.Bool.{true, false}
-use mathlib.Core.List.{List, map}
+use mathlib.Core.List.{List, [], _∷_, map}
 use Prim.Native.Nat.{ℕ, zero, suc, _+_, _-_, _*_, _≤_, _<_}
 use native.Mathlib.Numerals.{add-one}
 use native.Mathlib.Omega.{arith}
@@ -10,7 +10,13 @@ use borrow.Author.Tests.{lt-ltb, le-ltb, le-leb, lt-leb, eq-eqb, ne-eqb}
 use lib.ListN.{length}
 use Rattle.encode.specs.declared.Kind.the-variants.{Blob}
 use Rattle.plain.specs.Rules.{firstOf}
-use Rattle.plain.specs.Plain.{places, endAt, startAt, endsOf, rising, lastOf, plainNumber}
+use Rattle.plain.specs.Plain.{places, endsFrom, endAt, startAt, endsOf, rising, lastOf, plainNumber}
+
+-- ---- an end an item
+pub length-ends : (at : ℕ) (xs : List (List ℕ)) → length (endsFrom at xs) ≡ length xs
+unfolding endsFrom
+length-ends at [] = refl
+length-ends at (x ∷ xs) = ap suc (length-ends (at + length x) xs)
 
 -- ---- where an item starts
 pub start-first : (s : List ℕ) (i : ℕ) → i ≡ 0 → 0 ≡ startAt s i

@@ -19,7 +19,7 @@ use Rattle.encode.proofs.Primitive.{the-type}
 use Rattle.plain.specs.Plain.{places, fixedAt}
 
 -- the bytes of an item in eight bytes
-take-item : (w at : ℕ) (s : List ℕ) → at + w ≤ length s → take w (inEight (take w (drop at s))) ≡ take w (drop at s)
+pub take-item : (w at : ℕ) (s : List ℕ) → at + w ≤ length s → take w (inEight (take w (drop at s))) ≡ take w (drop at s)
 take-item w at s h =
     let b : List ℕ = take w (drop at s) in
     let d : length (drop at s) ≡ length s - at = length-drop at s in

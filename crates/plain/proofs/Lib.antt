@@ -5,3 +5,4 @@ pub mod Ends
 pub mod Chars
 pub mod Ranges
 pub mod Numbers
+pub mod Same

@@ -26,14 +26,25 @@ pub fixed-lies : {k : Kind} (p : Primitive) (n : ℕ) (s : List ℕ) (i : ℕ) �
 unfolding plainRow bytesIn
 fixed-lies p n s i e = subst (λ (j : Kind). Lies j n s i 0 0) (sym e) (omega arith, refl)
 
-module _ {k : Kind} (w n : ℕ) (s : List ℕ) (i : ℕ) (e : k ≡ Char w) (least : leastBytes k n ≤ length s) (h : i < n) where
+-- the same where a match found the kind, and what that is known to hold of
+module _ {k j : Kind} (e : k ≡ j) (n : ℕ) (s : List ℕ) where
+  pub least-found : leastBytes k n ≤ length s → leastBytes j n ≤ length s
+  least-found h = subst (λ (q : Kind). leastBytes q n ≤ length s) e h
+
+  pub ends-found : (i : ℕ) → endsGood k n s i ≡ true → endsGood j n s i ≡ true
+  ends-found i h = subst (λ (q : Kind). endsGood q n s i ≡ true) e h
+
+  pub lies-found : (i from len : ℕ) → Lies j n s i from len → Lies k n s i from len
+  lies-found i from len h = subst (λ (q : Kind). Lies q n s i from len) (sym e) h
+
+module _ (w n : ℕ) (s : List ℕ) (i : ℕ) (least : leastBytes (Char w) n ≤ length s) (h : i < n) where
   pub char-room : i * w + w ≤ length s
   unfolding leastBytes
-  char-room = item-room i n w (length s) h (subst (λ (j : Kind). leastBytes j n ≤ length s) e least)
+  char-room = item-room i n w (length s) h least
 
-  pub char-lies : (r : ℕ) → r ≡ length (charAt w s i) → r ≤ w → Lies k n s i (i * w) r
+  pub char-lies : (r : ℕ) → r ≡ length (charAt w s i) → r ≤ w → Lies (Char w) n s i (i * w) r
   unfolding plainRow bytesIn
-  char-lies r c l = let b : i * w + w ≤ length s = char-room in subst (λ (j : Kind). Lies j n s i (i * w) r) (sym e) (omega arith, rw c (take-char w s i))
+  char-lies r c l = let b : i * w + w ≤ length s = char-room in (omega arith, rw c (take-char w s i))
 
 module _ {k : Kind} (n : ℕ) (s : List ℕ) (e : k ≡ Blob) (least : leastBytes k n ≤ length s) where
   pub blob-room : 4 * n ≤ length s

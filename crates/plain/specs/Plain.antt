@@ -18,6 +18,11 @@ unfoldable pub joined : {A : Type 0} → (A → List ℕ) → List A → List �
 joined f [] = []
 joined f (x ∷ xs) = f x ++ joined f xs
 
+-- a test of each
+unfoldable pub allOf : (ℕ → Bool) → List ℕ → Bool
+allOf test [] = true
+allOf test (i ∷ is) = test i && allOf test is
+
 -- i, i + 1, .., n of them
 unfoldable pub places : ℕ → ℕ → List ℕ
 places zero i = []

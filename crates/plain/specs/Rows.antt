@@ -1,6 +1,6 @@
 -- Rows, as they are given to a builder and as a reader hands them out. Assumes nothing.
 use Prim.Native.Nat.{ℕ, zero, suc}
-use mathlib.Core.Bool.{Bool, true, false, _&&_}
+use mathlib.Core.Bool.{Bool, true, false, cond, _&&_}
 use mathlib.Core.List.{List, [], _∷_}
 use lib.Dec.{leb, eqb}
 use lib.IntN.{ℤ, pos, negsuc, _+ℤ_, _*ℤ_}
@@ -16,6 +16,15 @@ pub data Row : Type 0 where
   null : Row
   int : ℤ → Row
   bytes : List ℕ → Row
+
+-- the row that is given: of a null the value isn't read, a fixed kind has an integer, char and blob have bytes
+unfoldable pub valueOf : Kind → ℤ → List ℕ → Row
+valueOf (Fixed p) v bs = int v
+valueOf (Char w) v bs = bytes bs
+valueOf Blob v bs = bytes bs
+
+unfoldable pub rowOf : Kind → Bool → ℤ → List ℕ → Row
+rowOf k present v bs = cond present (valueOf k v bs) null
 
 -- an Interval's integer: months times 2^32 plus days modulo 2^32
 abbrev pub interval : ℤ → ℤ → ℤ

@@ -225,6 +225,28 @@ pub struct Range {
     pub len: usize,
 }
 
+// The bytes of char item `i` of `n`; of blob item `i`.
+pub fn char_at(w: usize, n: usize, s: &[u8], i: usize) -> Range
+    requires { ⌜ (i < n) × (n ≤ 1048576) × (w < 256) × (leastBytes (Kind.Char w) n ≤ length (now s)) ⌝ }
+    ensures { λ r. ⌜ (r .from + r .len ≤ length (now (s .entry))) × (take (r .len) (drop (r .from) (now (s .entry))) ≡ bytesIn (plainRow (Kind.Char w) n (now (s .entry)) i)) ⌝ }
+{
+    Range {
+        from: i * w,
+        len: char_len(s, i, w),
+    }
+}
+
+pub fn blob_at(n: usize, s: &[u8], i: usize) -> Range
+    requires { ⌜ (i < n) × (n ≤ 1048576) × (leastBytes Kind.Blob n ≤ length (now s)) × (endsGood Kind.Blob n (now s) i ≡ true) ⌝ }
+    ensures { λ r. ⌜ (r .from + r .len ≤ length (now (s .entry))) × (take (r .len) (drop (r .from) (now (s .entry))) ≡ bytesIn (plainRow Kind.Blob n (now (s .entry)) i)) ⌝ }
+{
+    let from = start_at(s, i);
+    Range {
+        from: 4 * n + from,
+        len: end_at(s, i) - from,
+    }
+}
+
 // The bytes of item `i` of `n`; none for a fixed kind.
 pub fn range_at(kind: Kind, n: usize, s: &[u8], i: usize) -> Range
     requires { ⌜ (i < n) × (n ≤ 1048576) × (leastBytes kind n ≤ length (now s)) × (endsGood kind n (now s) i ≡ true) ⌝ }
@@ -232,20 +254,8 @@ pub fn range_at(kind: Kind, n: usize, s: &[u8], i: usize) -> Range
 {
     match kind {
         Kind::Fixed(_) => Range { from: 0, len: 0 },
-        Kind::Char(w) => {
-            let width = w as usize;
-            Range {
-                from: i * width,
-                len: char_len(s, i, width),
-            }
-        }
-        Kind::Blob => {
-            let from = start_at(s, i);
-            Range {
-                from: 4 * n + from,
-                len: end_at(s, i) - from,
-            }
-        }
+        Kind::Char(w) => char_at(w as usize, n, s, i),
+        Kind::Blob => blob_at(n, s, i),
     }
 }
 

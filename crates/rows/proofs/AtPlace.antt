@@ -1,4 +1,4 @@
--- The row of one place: what a good place tells of its parts, which item it shows, and its text, value and flag. Assumes nothing.
+-- The row of one place: what a good place tells of its parts, which item it shows, and its text and flag. Assumes nothing.
 use Prim.Native.Nat.{ℕ, zero, suc, _+_, _-_, _*_, _≤_, _<_}
 use native.Mathlib.Numerals.{add-one}
 use native.Mathlib.Omega.{arith}
@@ -7,25 +7,21 @@ use mathlib.Core.List.{List, [], _∷_}
 use mathlib.Core.Logic.{inl, inr}
 use mathlib.Core.Path.{_≡_, refl, sym, ap, _∙_}
 use lib.Dec.{ltb, eqb}
-use lib.IntN.{ℤ, pos}
 use lib.ListN.{length, take, drop, length-drop}
 use lib.Seq.{length-take-le}
 use types.Run.{OneOf}
 use denote.Enum.Declared.{tagOf}
 use borrow.Author.Tests.{lt-ltb, le-ltb, ltb-true, eq-eqb, ne-eqb}
-use Rattle.encode.specs.Kinds.{widthOf}
 use Rattle.encode.specs.declared.Kind.{Kind}
 use Rattle.encode.specs.declared.Kind.the-variants.{Fixed, Char, Blob}
-use Rattle.encode.specs.declared.Primitive.{Primitive}
-use Rattle.plain.specs.Rows.{intIn, bytesIn}
-use Rattle.plain.specs.Plain.{leastBytes, endsGood, plainRow, fixedAt}
-use Rattle.plain.proofs.Items.{item-room}
+use Rattle.plain.specs.Rows.{bytesIn}
+use Rattle.plain.specs.Plain.{endsGood, plainRow}
 use Rattle.nullable.specs.Nullable.{bitAt, presence}
 use Rattle.dict.specs.Dictionary.{slotAt, entryRow, entryGood}
 use Rattle.rows.specs.declared.Marks.{Marks}
 use Rattle.rows.specs.declared.Marks.the-variants.{Bare, Bits, Keys}
 use Rattle.rows.specs.declared.Source.{Source}
-use Rattle.rows.specs.Rows.{shownBy, seenBy, mostBy, rowBy, textBy, sizeBy, goodBy, markBytes, Ready}
+use Rattle.rows.specs.Rows.{shownBy, seenBy, mostBy, rowBy, textOf, textBy, sizeBy, flagBy, goodBy, markBytes, Ready}
 use Rattle.rows.proofs.Marks.{the-type}
 use Rattle.rows.proofs.Folds.{both}
 
@@ -56,11 +52,15 @@ module _ (kind : Kind) (n : ℕ) (part : List ℕ) where
   entry-ends zero z h = absurd (z refl)
   entry-ends (suc i) z h = let m : suc i - 1 ≡ i = omega arith in rw m (both (ltb i n) (endsGood kind n part i) h .1)
 
-  -- its row
-  entry-row : (slot : ℕ) → (slot ≡ 0 → ⊥) → entryRow kind n part slot ≡ plainRow kind n part (slot - 1)
-  unfolding entryRow
-  entry-row zero z = absurd (z refl)
-  entry-row (suc i) z = let m : suc i - 1 ≡ i = omega arith in rw m
+  -- its bytes
+  pub text-none : (slot : ℕ) → slot ≡ 0 → (0 + 0 ≤ length part) × (take 0 (drop 0 part) ≡ textOf kind n part slot)
+  unfolding textOf bytesIn entryRow
+  text-none slot z = (omega arith, rw z)
+
+  pub text-some : (slot : ℕ) {xs : List ℕ} → (slot ≡ 0 → ⊥) → xs ≡ bytesIn (plainRow kind n part (slot - 1)) → xs ≡ textOf kind n part slot
+  unfolding textOf entryRow
+  text-some zero z q = absurd (z refl)
+  text-some (suc i) z q = let m : suc i - 1 ≡ i = omega arith in rw m at q
 
 -- ---- how many places there are, and which item is looked at
 -- an arm for rows with a bit or none, by the numbers of these marks, is none for keys
@@ -170,13 +170,6 @@ module _ {s : Source} {marks items : List ℕ} (r : Ready s marks items) (i : �
           let q : slot ≡ seenBy (s .marks) marks i = e ∙ shown-seen (s .marks) marks i (λ n. z (e ∙ n)) in
           entry-ends (s .kind) (s .items) items slot z (rw q (good-parts s marks items i g .1))
 
-      -- the bytes of the item shown
-      pub slot-bytes : {p : Primitive} → s .kind ≡ Fixed p → (slot ≡ 0 → ⊥) → (slot - 1) * widthOf p + widthOf p ≤ length items
-      unfolding leastBytes
-      slot-bytes {p} k z =
-          let w : s .items * widthOf p ≤ length items = rw k at (r .whole) in
-          item-room (slot - 1) (s .items) (widthOf p) (length items) (omega (arith, slot-most)) w
-
 -- ---- the row, by the item shown
 -- the size is that of the text
 pub sizes : (s : Source) (marks items : List ℕ) (i : ℕ) → sizeBy s marks items i ≡ length (textBy s marks items i)
@@ -189,42 +182,20 @@ module _ (s : Source) (marks items : List ℕ) (i : ℕ) where
   part-size from len h q = sym (length-take-le len (drop from items) (simp length-drop (omega arith))) ∙ ap length q
 
   module _ {slot : ℕ} (e : slot ≡ shownBy (s .marks) marks i) where
-    null-row : slot ≡ 0 → rowBy s marks items i ≡ entryRow (s .kind) (s .items) items 0
-    unfolding rowBy
-    null-row z = rw (← e, z)
+    pub text-shown : {xs : List ℕ} → xs ≡ textOf (s .kind) (s .items) items slot → xs ≡ textBy s marks items i
+    unfolding textOf textBy rowBy
+    text-shown q = rw (← e) q
 
-    item-row : (slot ≡ 0 → ⊥) → rowBy s marks items i ≡ plainRow (s .kind) (s .items) items (slot - 1)
-    unfolding rowBy
-    item-row z = rw (← e) (entry-row (s .kind) (s .items) items slot z)
-
-    pub text-null : slot ≡ 0 → (0 + 0 ≤ length items) × (take 0 (drop 0 items) ≡ textBy s marks items i)
-    unfolding textBy bytesIn entryRow
-    text-null z = (omega arith, rw (null-row z))
-
-    pub text-item : {xs : List ℕ} → (slot ≡ 0 → ⊥) → xs ≡ bytesIn (plainRow (s .kind) (s .items) items (slot - 1)) → xs ≡ textBy s marks items i
-    unfolding textBy
-    text-item z q = rw (item-row z) q
-
-    pub value-null : slot ≡ 0 → pos 0 ≡ intIn (rowBy s marks items i)
-    unfolding intIn entryRow
-    value-null z = rw (null-row z)
-
-    pub value-item : {p : Primitive} {v : ℤ} → s .kind ≡ Fixed p → (slot ≡ 0 → ⊥) → v ≡ fixedAt p items (slot - 1) → v ≡ intIn (rowBy s marks items i)
-    unfolding intIn plainRow
-    value-item k z q = q ∙ rw (item-row z, k)
-
-    pub flag-null : slot ≡ 0 → 0 ≡ presence (rowBy s marks items i)
-    unfolding presence entryRow
-    flag-null z = rw (null-row z)
-
-    pub flag-item : (slot ≡ 0 → ⊥) → 1 ≡ presence (rowBy s marks items i)
-    unfolding presence plainRow
-    flag-item z = rw (item-row z) (here (s .kind))
+    -- the flag is 0 of a null and 1 of an item
+    pub flag-row : {f : ℕ} → (slot ≡ 0 → f ≡ 0) × (0 < slot → f ≡ 1) → f ≡ flagBy s marks items i
+    unfolding flagBy rowBy presence entryRow plainRow
+    flag-row {f} q = go (shownBy (s .marks) marks i) e (s .kind)
       where
-        here : (k : Kind) → 1 ≡ presence (plainRow k (s .items) items (slot - 1))
-        here (Fixed p) = refl
-        here (Char w) = refl
-        here Blob = refl
+        go : (n : ℕ) → slot ≡ n → (k : Kind) → f ≡ presence (entryRow k (s .items) items n)
+        go zero z k = q .0 z
+        go (suc n) z (Fixed p) = q .1 (omega arith)
+        go (suc n) z (Char w) = q .1 (omega arith)
+        go (suc n) z Blob = q .1 (omega arith)
 
   -- ---- the returns of `good`, by how many places there are and which item is looked at
   module _ {most : ℕ} (m : mostBy (s .marks) (s .items) (s .runs) ≡ most) where

@@ -4,11 +4,12 @@ use native.Mathlib.Nat.{add-zero, zero-add, suc-mul, zero-mul}
 use native.Mathlib.Omega.{arith}
 use mathlib.Core.Bool.{Bool, true, false, _&&_, and-assoc, and-false}
 use mathlib.Core.List.{List, [], _∷_, _++_, append-assoc, map}
-use mathlib.Core.Path.{_≡_, refl, sym, ap}
+use mathlib.Core.Path.{_≡_, refl, sym}
 use lib.ListN.{length, replicate, length-append}
 use Rattle.area.specs.Area.{repeats, climbs}
-use Rattle.plain.specs.Plain.{joined, endsFrom}
-use Rattle.rows.specs.Rows.{allOf, sumOf}
+use Rattle.plain.specs.Plain.{allOf, joined, endsFrom}
+pub use Rattle.plain.proofs.Ends.{length-ends}
+use Rattle.rows.specs.Rows.{sumOf}
 
 -- ---- a test of each
 -- both parts of a test that holds
@@ -81,8 +82,3 @@ module _ (g : ℕ → List ℕ) where
     unfolding endsFrom climbs
     ends-same at zero i = refl
     ends-same at (suc m) i = rw (sized i) (rw (← sized i) (rw (ends-same (at + f i) m i)))
-
-pub length-ends : (at : ℕ) (xs : List (List ℕ)) → length (endsFrom at xs) ≡ length xs
-unfolding endsFrom
-length-ends at [] = refl
-length-ends at (x ∷ xs) = ap suc (length-ends (at + length x) xs)

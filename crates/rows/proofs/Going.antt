@@ -5,6 +5,7 @@ use mathlib.Core.Bool.{Bool, true, false}
 use mathlib.Core.List.{List, [], _++_, append-nil}
 use mathlib.Core.Path.{_≡_, refl, sym, ap, subst, _∙_}
 use lib.ListN.{length, replicate, length-append, length-replicate}
+use Rattle.plain.specs.Plain.{allOf}
 use Rattle.rle.specs.declared.Spot.{Spot}
 use Rattle.rle.specs.declared.Piece.{Piece}
 use Rattle.rle.specs.declared.Piece.the-variants.{Rows, Stuck}
@@ -12,7 +13,7 @@ use Rattle.rle.specs.Stepping.{Steps, stuck, rows, before}
 use Rattle.rle.specs.Pieces.{pieceIn, stepsIn, Fine, runsOf}
 use Rattle.rle.proofs.Laws.{before-nil, before-before, steps-zero, coded-room}
 use Rattle.rle.proofs.Pieces.{piece-stuck, piece-rows, piece-most, piece-less, piece-inside, piece-alone}
-use Rattle.rows.specs.Rows.{startsBy, allOf, Writes}
+use Rattle.rows.specs.Rows.{startsBy, Good, Writes}
 use Rattle.rows.proofs.Folds.{both, all-append, same-all}
 
 -- ---- rows in front of others that are there
@@ -123,3 +124,23 @@ module _ {coded : Bool} {runs : ℕ} {counts : List ℕ} {n : ℕ} {from at : Sp
             let a = both (allOf good (w .done ++ replicate k (at .run))) (allOf good rest) (sym (all-append good _ rest) ∙ sym (ap (allOf good) going-runs) ∙ r .right) in
             let c = both (allOf good (w .done)) (allOf good (replicate k (at .run))) (sym (all-append good (w .done) _) ∙ a .0) in
             same-all good k (at .run) (c .1) m
+
+-- the next piece is there and good
+pub going-piece : {coded : Bool} {runs : ℕ} {counts : List ℕ} {n : ℕ} {from at : Spot} {left : ℕ} (w : Going coded runs counts n from at left) → 0 < left
+    → {good : ℕ → Bool} {room : ℕ} → Writes good (stepsIn coded runs counts n from) n room → Good good (at .run) (pieceIn coded runs counts at left)
+unfolding Good
+going-piece {coded} {runs} {counts} {n} {from} {at} {left} w l {good} r = go (pieceIn coded runs counts at left) refl
+  where
+    go : (p : Piece) → p ≡ pieceIn coded runs counts at left → Good good (at .run) p
+    go Stuck e = absurd (going-never w l e (r .fine) refl)
+    go (Rows k t) e = going-good w l e refl r
+
+-- what a good one tells
+module _ (good : ℕ → Bool) (i : ℕ) {q p : Piece} (g : Good good i q) (e : p ≡ q) where
+  pub good-there : p ≡ Stuck → ⊥
+  unfolding Good
+  good-there b = subst (Good good i) (sym e ∙ b) g
+
+  pub good-shows : {k : ℕ} {t : Spot} → p ≡ Rows k t → 0 < k → good i ≡ true
+  unfolding Good
+  good-shows b = subst (Good good i) (sym e ∙ b) g

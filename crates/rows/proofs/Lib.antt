@@ -3,3 +3,5 @@ pub mod Going
 pub mod Weighing
 pub mod Putting
 pub mod AtPlace
+pub mod Values
+pub mod Texts

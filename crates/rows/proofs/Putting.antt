@@ -1,6 +1,5 @@
 -- The loops that write: what each row done has given stands in the areas, and there is room for the rows of the next piece. Assumes nothing.
-use Prim.Native.Nat.{ℕ, _+_, _-_, _*_, _≤_, _<_}
-use native.Mathlib.Nat.{add-zero, zero-mul}
+use Prim.Native.Nat.{ℕ, zero, suc, _+_, _-_, _*_, _≤_, _<_}
 use native.Mathlib.Omega.{arith}
 use mathlib.Core.Bool.{Bool}
 use mathlib.Core.List.{List, _++_, map, map-append}
@@ -19,21 +18,10 @@ use Rattle.rows.specs.Rows.{startsBy, sumOf, Writes}
 use Rattle.rows.proofs.Folds.{sum-append, sum-same, joined-append, joined-same, length-joined, ends-append, ends-same, length-ends}
 use Rattle.rows.proofs.Going.{Going, going-start, going-all, going-on, going-place, going-runs}
 
--- ---- the rows of one run: `put_value`, `put_flag` and `put_text`
-pub filled : {A : Type 0} (area : List A) (to k : ℕ) {area′ : List A} {x y : A} → x ≡ y → area′ ≡ sets area to (replicate k x) → area′ ≡ sets area to (replicate k y)
-filled area to k e q = rw (← e) q
-
-module _ (rows to at : ℕ) (ends bytes : List ℕ) (size : ℕ) (text : List ℕ) where
-  abbrev pub Wrote : ℕ → List ℕ → List ℕ → Type 0
-  Wrote r ends′ bytes′ = (r ≡ at + rows * size) × ((ends′ ≡ sets ends to (climbs rows at size)) × (bytes′ ≡ sets bytes at (repeats rows text)))
-
-  pub wrote-none : rows ≡ 0 → Wrote at ends bytes
-  unfolding climbs repeats
-  wrote-none z = rw (z, zero-mul, add-zero) (refl, (refl, refl))
-
-  pub wrote-all : {len : ℕ} {xs ends′ bytes′ : List ℕ} → len ≡ size → xs ≡ text
-      → ends′ ≡ sets ends to (climbs rows at len) → bytes′ ≡ sets bytes at (repeats rows xs) → Wrote (at + rows * len) ends′ bytes′
-  wrote-all d e y z = rw (← d, ← e) (refl, (y, z))
+-- a run that was used up has no row, whatever they would be
+pub run-same : {A B : Type 0} (f : A → B) (k : ℕ) {x y : A} → (k ≡ 0 → f x ≡ f y) → (0 < k → x ≡ y) → f x ≡ f y
+run-same f zero z e = z refl
+run-same f (suc k) z e = ap f (e (omega arith))
 
 -- ---- one element a row: values and flags
 pub record Storing (A : Type 0) (g : ℕ → A) (coded : Bool) (runs : ℕ) (counts : List ℕ) (n : ℕ) (from : Spot) (area₀ : List A) (at : Spot) (left to : ℕ) (area : List A) : Type 0 where
@@ -59,15 +47,16 @@ module _ {A : Type 0} where
       pub storing-room : n ≤ length area₀ → to + k ≤ length area
       storing-room h = omega (arith, h, storing-long, going-place (w .going) l e b (w .place))
 
-      pub storing-on : {area′ : List A} → area′ ≡ sets area to (replicate k (g (at .run))) → Storing A g coded runs counts n from area₀ t (left - k) (to + k) area′
+      -- THE STEP: where the rows of the run are filled with what each of them is to give
+      pub storing-on : {x : A} → (0 < k → x ≡ g (at .run)) → {area′ : List A} → area′ ≡ sets area to (replicate k x) → Storing A g coded runs counts n from area₀ t (left - k) (to + k) area′
       unfolding going-on
-      storing-on {area′} q =
+      storing-on {x} f {area′} q =
           let is : List ℕ = w .going .done in
           let js : List ℕ = replicate k (at .run) in
           let z : 0 + length (map g is) ≡ to = omega (arith, length-map is g, w .place) in
           record {
             going = going-on (w .going) l e b;
-            same = q ∙ rw (w .same) (rw (map-append g is js, map-replicate g k (at .run), sets-append (map g is) (replicate k (g (at .run))) area₀ 0, z));
+            same = q ∙ rw (run-same (replicate k) k (λ z. rw z) f, w .same) (rw (map-append g is js, map-replicate g k (at .run), sets-append (map g is) (replicate k (g (at .run))) area₀ 0, z));
             place = rw (length-append is js, length-replicate k (at .run)) (omega (arith, w .place));
           }
 

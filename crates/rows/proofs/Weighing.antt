@@ -10,6 +10,7 @@ use lib.Dec.{eqb}
 use lib.ListN.{replicate}
 use borrow.Author.Tests.{lt-ltb, le-ltb, eq-eqb, ne-eqb, eqb-true, eqb-false}
 use Rattle.area.proofs.Laws.{lt-or-ge}
+use Rattle.plain.specs.Plain.{allOf}
 use Rattle.rle.specs.declared.Spot.{Spot}
 use Rattle.rle.specs.declared.Piece.{Piece}
 use Rattle.rle.specs.declared.Piece.the-variants.{Rows, Stuck as NoPiece}
@@ -18,7 +19,7 @@ use Rattle.rle.specs.Pieces.{pieceIn, stepsIn}
 use Rattle.rows.specs.declared.Weight.{Weight}
 use Rattle.rows.specs.declared.Weight.the-variants.{Sum, Broken}
 use Rattle.rows.specs.declared.Weighed.the-variants.{Total, Stuck}
-use Rattle.rows.specs.Rows.{startsBy, capped, allOf, sumOf, heavier, weighedBy}
+use Rattle.rows.specs.Rows.{startsBy, capped, sumOf, heavier, weighedBy}
 use Rattle.rows.proofs.Folds.{all-append, all-same, all-bad, sum-append, sum-same}
 use Rattle.rows.proofs.Going.{Going, going-start, going-end, going-stuck, going-on, whole-on}
 

@@ -7,10 +7,16 @@ use mathlib.Core.List.{List, [], _∷_}
 use lib.Dec.{ltb, eqb}
 use lib.IntN.{ℤ}
 use lib.ListN.{length}
+use Rattle.encode.specs.Kinds.{defaultValue}
+use Rattle.encode.specs.declared.Kind.{Kind}
+use Rattle.encode.specs.declared.Kind.the-variants.{Fixed, Char, Blob}
+use Rattle.encode.specs.declared.Primitive.{Primitive}
 use Rattle.plain.specs.Rows.{Row, intIn, bytesIn}
-use Rattle.plain.specs.Plain.{leastBytes}
+use Rattle.plain.specs.Plain.{allOf, fixedAt, leastBytes}
 use Rattle.nullable.specs.Nullable.{bitAt, presence}
 use Rattle.rle.specs.declared.Spot.{Spot}
+use Rattle.rle.specs.declared.Piece.{Piece}
+use Rattle.rle.specs.declared.Piece.the-variants.{Rows as Some, Stuck as NoPiece}
 use Rattle.rle.specs.Stepping.{Steps, stuck, rows}
 use Rattle.rle.specs.Pieces.{Fine, runsOf}
 use Rattle.dict.specs.Dictionary.{slotAt, entryRow, entryGood}
@@ -44,11 +50,23 @@ mostBy Keys items runs = runs
 unfoldable pub rowBy : Source → List ℕ → List ℕ → ℕ → Row
 rowBy s marks items i = entryRow (s .kind) (s .items) items (shownBy (s .marks) marks i)
 
+-- its bytes, and those of an item that is counted from 1 on: none of a null
+unfoldable pub textOf : Kind → ℕ → List ℕ → ℕ → List ℕ
+textOf k n items slot = bytesIn (entryRow k n items slot)
+
 unfoldable pub textBy : Source → List ℕ → List ℕ → ℕ → List ℕ
 textBy s marks items i = bytesIn (rowBy s marks items i)
 
 unfoldable pub sizeBy : Source → List ℕ → List ℕ → ℕ → ℕ
 sizeBy s marks items i = length (textBy s marks items i)
+
+-- its value, and that of an item by the layout of a kind: 0 of a null
+unfoldable pub valueOf : Primitive → List ℕ → ℕ → ℤ
+valueOf p items zero = defaultValue
+valueOf p items (suc i) = fixedAt p items i
+
+unfoldable pub valueBy : Primitive → Source → List ℕ → List ℕ → ℕ → ℤ
+valueBy p s marks items i = valueOf p items (shownBy (s .marks) marks i)
 
 unfoldable pub intBy : Source → List ℕ → List ℕ → ℕ → ℤ
 intBy s marks items i = intIn (rowBy s marks items i)
@@ -85,10 +103,6 @@ Starts s from n = startsBy (s .coded) (from .run) (s .runs) n
 unfoldable pub capped : ℕ → ℕ
 capped t = cond (ltb 4294967296 t) 4294967296 t
 
-unfoldable pub allOf : (ℕ → Bool) → List ℕ → Bool
-allOf p [] = true
-allOf p (i ∷ is) = p i && allOf p is
-
 unfoldable pub sumOf : (ℕ → ℕ) → List ℕ → ℕ
 sumOf f [] = 0
 sumOf f (i ∷ is) = f i + sumOf f is
@@ -102,7 +116,18 @@ weighedBy p f stuck = Stuck
 weighedBy p f (rows is t) = cond (allOf p is) (Total (capped (sumOf f is)) t) Stuck
 
 -- ---- writing wants the rows to be there and good, and room for them
+-- some rows of run i
+unfoldable pub Good : (ℕ → Bool) → ℕ → Piece → Type 0
+Good good i NoPiece = ⊥
+Good good i (Some k t) = 0 < k → good i ≡ true
+
 pub record Writes (good : ℕ → Bool) (steps : Steps) (n room : ℕ) : Type 0 where
   pub fine : Fine steps
   pub right : allOf good (runsOf steps) ≡ true
   pub rows : n ≤ room
+
+-- and bytes are written of char and blob only
+unfoldable pub Texts : Kind → Type 0
+Texts (Fixed p) = ⊥
+Texts (Char w) = Unit
+Texts Blob = Unit

@@ -1,24 +1,30 @@
-// The rows of a block, from its counts, its marks and its items: one loop for every encoding, in two passes. The first
-// looks (counts, ends, keys, the bytes in all); the second writes what the first has found good.
+// The rows of a block, from its counts, its marks and its items: the same loops for every encoding, in two passes. The first
+// looks (counts, ends, keys, the bytes in all); the second writes what the first has found good, and asks for the kind
+// before its loops, not in them.
+use encode::BoolKind;
+use encode::DateKind;
+use encode::I16Kind;
+use encode::I32Kind;
+use encode::I64Kind;
 use encode::Kind;
 use encode::Primitive;
+use encode::TimestampKind;
 use plain::Range;
 use rle::Piece;
 use rle::Spot;
 ghost use mathlib.Core.Path.{_≡_};
 ghost use mathlib.Core.Bool.{true};
 ghost use mathlib.Core.List.{map};
-ghost use Prim.Native.Nat.{_+_, _*_, _<_, _≤_, _^_};
-ghost use lib.ListN.{length, take, drop, replicate};
+ghost use Prim.Native.Nat.{_+_, _-_, _*_, _<_, _≤_, _^_};
+ghost use lib.ListN.{length, take, drop};
 ghost use lib.Seq.{sets};
-ghost use Rattle.encode.specs.declared.Kind.the-variants.{Fixed};
-ghost use Rattle.plain.specs.Rows.{intIn};
-ghost use Rattle.plain.specs.Plain.{joined, endsFrom, leastBytes};
-ghost use Rattle.nullable.specs.Nullable.{presence};
-ghost use Rattle.rle.specs.Pieces.{stepsIn, runsOf};
+ghost use Rattle.encode.specs.declared.Kind.the-variants.{Fixed, Char, Blob};
+ghost use Rattle.plain.specs.Plain.{joined, endsFrom, leastBytes, endsGood};
+ghost use Rattle.rle.specs.declared.Piece.the-variants.{Rows};
+ghost use Rattle.rle.specs.Pieces.{pieceIn, stepsIn, runsOf};
 ghost use Rattle.area.specs.Area.{repeats, climbs};
 ghost use Rattle.dict.specs.Dictionary.{entryGood};
-ghost use Rattle.rows.specs.Rows.{shownBy, rowBy, textBy, sizeBy, intBy, flagBy, goodBy, Ready, Starts, sumOf, heavier, weighedBy, Writes};
+ghost use Rattle.rows.specs.Rows.{shownBy, textOf, textBy, sizeBy, intBy, valueOf, valueBy, flagBy, goodBy, Ready, Starts, sumOf, heavier, weighedBy, Good, Writes, Texts};
 
 // What stands beside the items: nothing, a bit a row, or a key a run.
 pub enum Marks {
@@ -118,26 +124,6 @@ fn text(s: Source, marks: &[u8], items: &[u8], i: usize) -> Range
     plain::range_at(kind, s.items, items, slot - 1)
 }
 
-// The value of place `i`: 0 of a null.
-fn value(p: Primitive, s: Source, marks: &[u8], items: &[u8], i: usize) -> i64
-    requires { ⌜ Ready s (now marks) (now items) × (goodBy s (now marks) (now items) i ≡ true) × (s .kind ≡ Fixed p) ⌝ }
-    ensures { λ r. ⌜ r ≡ intIn (rowBy s (now (marks .entry)) (now (items .entry)) i) ⌝ }
-{
-    let slot = shown(s, marks, items, i);
-    if slot == 0 {
-        return 0;
-    }
-    plain::value_at(p, items, slot - 1)
-}
-
-// The flag of place `i`: 1 if it is present.
-fn flag(s: Source, marks: &[u8], items: &[u8], i: usize) -> u8
-    requires { ⌜ Ready s (now marks) (now items) × (goodBy s (now marks) (now items) i ≡ true) ⌝ }
-    ensures { λ r. ⌜ r ≡ presence (rowBy s (now (marks .entry)) (now (items .entry)) i) ⌝ }
-{
-    if shown(s, marks, items, i) == 0 { 0 } else { 1 }
-}
-
 // ---- the first pass
 
 // `rows` rows of place `i` more.
@@ -190,28 +176,258 @@ pub fn weigh(s: Source, counts: &[u8], marks: &[u8], items: &[u8], from: Spot, n
 
 // ---- the second pass
 
-// Writes `rows` rows of place `i`: their values.
-fn put_value(
-    p: Primitive,
-    s: Source,
-    marks: &[u8],
-    items: &[u8],
-    i: usize,
+// A run of which rows are written: its item, from 1 on (0 is null, and stands for a run that was used up too), how many
+// rows, and the place after them.
+struct Run {
+    slot: usize,
     rows: usize,
-    values: &mut [i64],
-    to: usize,
-)
-    requires { ⌜ Ready s (now marks) (now items) × (0 < rows → goodBy s (now marks) (now items) i ≡ true) × (s .kind ≡ Fixed p) × (to + rows ≤ length (now values)) ⌝ }
-    ensures { λ _. ⌜ now (values .exit) ≡ sets (now (values .entry)) to (replicate rows (intBy s (now (marks .entry)) (now (items .entry)) i)) ⌝ }
-{
-    if rows == 0 {
-        return;
-    }
-    let x = value(p, s, marks, items, i);
-    area::fill_values(values, to, rows, x);
+    next: Spot,
 }
 
-// Writes the values of the next `n` rows, run by run: an item is decoded once.
+// The next run of which rows are written. The first pass has found it there and good.
+fn next_run(s: Source, counts: &[u8], marks: &[u8], items: &[u8], at: Spot, left: usize) -> Run
+    requires { ⌜ Ready s (now marks) (now items) × (at .run ≤ 1048576) × Good (goodBy s (now marks) (now items)) (at .run) (pieceIn (s .coded) (s .runs) (now counts) at left) ⌝ }
+    ensures { λ r. ⌜ (pieceIn (s .coded) (s .runs) (now (counts .entry)) at left ≡ Rows (r .rows) (r .next)) × (0 < r .rows → r .slot ≡ shownBy (s .marks) (now (marks .entry)) (at .run)) × (r .slot ≤ s .items) × (0 < r .slot → endsGood (s .kind) (s .items) (now (items .entry)) (r .slot - 1) ≡ true) ⌝ }
+{
+    let piece = rle::take_piece(s.coded, counts, s.runs, at, left);
+    let Piece::Rows { rows, next } = piece else {
+        return Run {
+            slot: 0,
+            rows: 0,
+            next: at,
+        };
+    };
+    if rows == 0 {
+        return Run {
+            slot: 0,
+            rows,
+            next,
+        };
+    }
+    let slot = shown(s, marks, items, at.run);
+    Run { slot, rows, next }
+}
+
+// The value of an item, counted from 1 on, by its layout: 0 of a null.
+fn bool_of(items: &[u8], slot: usize) -> i64
+    requires { ⌜ (slot ≤ 1048576) × (slot * 1 ≤ length (now items)) ⌝ }
+    ensures { λ r. ⌜ r ≡ valueOf Primitive.Bool (now (items .entry)) slot ⌝ }
+{
+    if slot == 0 {
+        return 0;
+    }
+    BoolKind::decode(plain::item1(items, slot - 1))
+}
+
+fn i16_of(items: &[u8], slot: usize) -> i64
+    requires { ⌜ (slot ≤ 1048576) × (slot * 2 ≤ length (now items)) ⌝ }
+    ensures { λ r. ⌜ r ≡ valueOf Primitive.I16 (now (items .entry)) slot ⌝ }
+{
+    if slot == 0 {
+        return 0;
+    }
+    I16Kind::decode(plain::item2(items, (slot - 1) * 2))
+}
+
+fn i32_of(items: &[u8], slot: usize) -> i64
+    requires { ⌜ (slot ≤ 1048576) × (slot * 4 ≤ length (now items)) ⌝ }
+    ensures { λ r. ⌜ r ≡ valueOf Primitive.I32 (now (items .entry)) slot ⌝ }
+{
+    if slot == 0 {
+        return 0;
+    }
+    I32Kind::decode(plain::item4(items, (slot - 1) * 4))
+}
+
+fn i64_of(items: &[u8], slot: usize) -> i64
+    requires { ⌜ (slot ≤ 1048576) × (slot * 8 ≤ length (now items)) ⌝ }
+    ensures { λ r. ⌜ r ≡ valueOf Primitive.I64 (now (items .entry)) slot ⌝ }
+{
+    if slot == 0 {
+        return 0;
+    }
+    I64Kind::decode(plain::item8(items, (slot - 1) * 8))
+}
+
+fn date_of(items: &[u8], slot: usize) -> i64
+    requires { ⌜ (slot ≤ 1048576) × (slot * 4 ≤ length (now items)) ⌝ }
+    ensures { λ r. ⌜ r ≡ valueOf Primitive.Date (now (items .entry)) slot ⌝ }
+{
+    if slot == 0 {
+        return 0;
+    }
+    DateKind::decode(plain::item4(items, (slot - 1) * 4))
+}
+
+fn timestamp_of(items: &[u8], slot: usize) -> i64
+    requires { ⌜ (slot ≤ 1048576) × (slot * 8 ≤ length (now items)) ⌝ }
+    ensures { λ r. ⌜ r ≡ valueOf Primitive.Timestamp (now (items .entry)) slot ⌝ }
+{
+    if slot == 0 {
+        return 0;
+    }
+    TimestampKind::decode(plain::item8(items, (slot - 1) * 8))
+}
+
+// Writes the values of the next `n` rows, run by run: an item is decoded once. A loop for each layout, so that no loop asks for
+// the kind.
+fn put_bools(
+    s: Source,
+    counts: &[u8],
+    marks: &[u8],
+    items: &[u8],
+    from: Spot,
+    n: usize,
+    values: &mut [i64],
+)
+    requires { ⌜ Ready s (now marks) (now items) × Starts s from n × (s .items * 1 ≤ length (now items)) × Writes (goodBy s (now marks) (now items)) (stepsIn (s .coded) (s .runs) (now counts) n from) n (length (now values)) ⌝ }
+    ensures { λ _. ⌜ now (values .exit) ≡ sets (now (values .entry)) 0 (map (valueBy Primitive.Bool s (now (marks .entry)) (now (items .entry))) (runsOf (stepsIn (s .coded) (s .runs) (now (counts .entry)) n from))) ⌝ }
+{
+    let mut at = from;
+    let mut left = n;
+    let mut to: usize = 0;
+    while 0 < left {
+        let run = next_run(s, counts, marks, items, at, left);
+        let rows = run.rows;
+        let next = run.next;
+        area::fill_values(values, to, rows, bool_of(items, run.slot));
+        to += rows;
+        left -= rows;
+        at = next;
+    }
+}
+
+fn put_i16s(
+    s: Source,
+    counts: &[u8],
+    marks: &[u8],
+    items: &[u8],
+    from: Spot,
+    n: usize,
+    values: &mut [i64],
+)
+    requires { ⌜ Ready s (now marks) (now items) × Starts s from n × (s .items * 2 ≤ length (now items)) × Writes (goodBy s (now marks) (now items)) (stepsIn (s .coded) (s .runs) (now counts) n from) n (length (now values)) ⌝ }
+    ensures { λ _. ⌜ now (values .exit) ≡ sets (now (values .entry)) 0 (map (valueBy Primitive.I16 s (now (marks .entry)) (now (items .entry))) (runsOf (stepsIn (s .coded) (s .runs) (now (counts .entry)) n from))) ⌝ }
+{
+    let mut at = from;
+    let mut left = n;
+    let mut to: usize = 0;
+    while 0 < left {
+        let run = next_run(s, counts, marks, items, at, left);
+        let rows = run.rows;
+        let next = run.next;
+        area::fill_values(values, to, rows, i16_of(items, run.slot));
+        to += rows;
+        left -= rows;
+        at = next;
+    }
+}
+
+fn put_i32s(
+    s: Source,
+    counts: &[u8],
+    marks: &[u8],
+    items: &[u8],
+    from: Spot,
+    n: usize,
+    values: &mut [i64],
+)
+    requires { ⌜ Ready s (now marks) (now items) × Starts s from n × (s .items * 4 ≤ length (now items)) × Writes (goodBy s (now marks) (now items)) (stepsIn (s .coded) (s .runs) (now counts) n from) n (length (now values)) ⌝ }
+    ensures { λ _. ⌜ now (values .exit) ≡ sets (now (values .entry)) 0 (map (valueBy Primitive.I32 s (now (marks .entry)) (now (items .entry))) (runsOf (stepsIn (s .coded) (s .runs) (now (counts .entry)) n from))) ⌝ }
+{
+    let mut at = from;
+    let mut left = n;
+    let mut to: usize = 0;
+    while 0 < left {
+        let run = next_run(s, counts, marks, items, at, left);
+        let rows = run.rows;
+        let next = run.next;
+        area::fill_values(values, to, rows, i32_of(items, run.slot));
+        to += rows;
+        left -= rows;
+        at = next;
+    }
+}
+
+fn put_i64s(
+    s: Source,
+    counts: &[u8],
+    marks: &[u8],
+    items: &[u8],
+    from: Spot,
+    n: usize,
+    values: &mut [i64],
+)
+    requires { ⌜ Ready s (now marks) (now items) × Starts s from n × (s .items * 8 ≤ length (now items)) × Writes (goodBy s (now marks) (now items)) (stepsIn (s .coded) (s .runs) (now counts) n from) n (length (now values)) ⌝ }
+    ensures { λ _. ⌜ now (values .exit) ≡ sets (now (values .entry)) 0 (map (valueBy Primitive.I64 s (now (marks .entry)) (now (items .entry))) (runsOf (stepsIn (s .coded) (s .runs) (now (counts .entry)) n from))) ⌝ }
+{
+    let mut at = from;
+    let mut left = n;
+    let mut to: usize = 0;
+    while 0 < left {
+        let run = next_run(s, counts, marks, items, at, left);
+        let rows = run.rows;
+        let next = run.next;
+        area::fill_values(values, to, rows, i64_of(items, run.slot));
+        to += rows;
+        left -= rows;
+        at = next;
+    }
+}
+
+fn put_dates(
+    s: Source,
+    counts: &[u8],
+    marks: &[u8],
+    items: &[u8],
+    from: Spot,
+    n: usize,
+    values: &mut [i64],
+)
+    requires { ⌜ Ready s (now marks) (now items) × Starts s from n × (s .items * 4 ≤ length (now items)) × Writes (goodBy s (now marks) (now items)) (stepsIn (s .coded) (s .runs) (now counts) n from) n (length (now values)) ⌝ }
+    ensures { λ _. ⌜ now (values .exit) ≡ sets (now (values .entry)) 0 (map (valueBy Primitive.Date s (now (marks .entry)) (now (items .entry))) (runsOf (stepsIn (s .coded) (s .runs) (now (counts .entry)) n from))) ⌝ }
+{
+    let mut at = from;
+    let mut left = n;
+    let mut to: usize = 0;
+    while 0 < left {
+        let run = next_run(s, counts, marks, items, at, left);
+        let rows = run.rows;
+        let next = run.next;
+        area::fill_values(values, to, rows, date_of(items, run.slot));
+        to += rows;
+        left -= rows;
+        at = next;
+    }
+}
+
+fn put_timestamps(
+    s: Source,
+    counts: &[u8],
+    marks: &[u8],
+    items: &[u8],
+    from: Spot,
+    n: usize,
+    values: &mut [i64],
+)
+    requires { ⌜ Ready s (now marks) (now items) × Starts s from n × (s .items * 8 ≤ length (now items)) × Writes (goodBy s (now marks) (now items)) (stepsIn (s .coded) (s .runs) (now counts) n from) n (length (now values)) ⌝ }
+    ensures { λ _. ⌜ now (values .exit) ≡ sets (now (values .entry)) 0 (map (valueBy Primitive.Timestamp s (now (marks .entry)) (now (items .entry))) (runsOf (stepsIn (s .coded) (s .runs) (now (counts .entry)) n from))) ⌝ }
+{
+    let mut at = from;
+    let mut left = n;
+    let mut to: usize = 0;
+    while 0 < left {
+        let run = next_run(s, counts, marks, items, at, left);
+        let rows = run.rows;
+        let next = run.next;
+        area::fill_values(values, to, rows, timestamp_of(items, run.slot));
+        to += rows;
+        left -= rows;
+        at = next;
+    }
+}
+
+// Writes the values of the next `n` rows of a fixed kind.
 pub fn put_values(
     p: Primitive,
     s: Source,
@@ -225,41 +441,23 @@ pub fn put_values(
     requires { ⌜ Ready s (now marks) (now items) × Starts s from n × (s .kind ≡ Fixed p) × Writes (goodBy s (now marks) (now items)) (stepsIn (s .coded) (s .runs) (now counts) n from) n (length (now values)) ⌝ }
     ensures { λ _. ⌜ now (values .exit) ≡ sets (now (values .entry)) 0 (map (intBy s (now (marks .entry)) (now (items .entry))) (runsOf (stepsIn (s .coded) (s .runs) (now (counts .entry)) n from))) ⌝ }
 {
-    let coded = s.coded;
-    let runs = s.runs;
-    let mut at = from;
-    let mut left = n;
-    let mut to: usize = 0;
-    while 0 < left {
-        let piece = rle::take_piece(coded, counts, runs, at, left);
-        let Piece::Rows { rows, next } = piece else {
-            return;
-        };
-        put_value(p, s, marks, items, at.run, rows, values, to);
-        to += rows;
-        left -= rows;
-        at = next;
+    match p {
+        Primitive::Bool => put_bools(s, counts, marks, items, from, n, values),
+        Primitive::I16 => put_i16s(s, counts, marks, items, from, n, values),
+        Primitive::I32 => put_i32s(s, counts, marks, items, from, n, values),
+        Primitive::I64 => put_i64s(s, counts, marks, items, from, n, values),
+        Primitive::Date => put_dates(s, counts, marks, items, from, n, values),
+        Primitive::Timestamp | Primitive::TimestampTz | Primitive::Interval => {
+            put_timestamps(s, counts, marks, items, from, n, values)
+        }
     }
 }
 
-// Writes `rows` rows of place `i`: their flags.
-fn put_flag(
-    s: Source,
-    marks: &[u8],
-    items: &[u8],
-    i: usize,
-    rows: usize,
-    flags: &mut [u8],
-    to: usize,
-)
-    requires { ⌜ Ready s (now marks) (now items) × (0 < rows → goodBy s (now marks) (now items) i ≡ true) × (to + rows ≤ length (now flags)) ⌝ }
-    ensures { λ _. ⌜ now (flags .exit) ≡ sets (now (flags .entry)) to (replicate rows (flagBy s (now (marks .entry)) (now (items .entry)) i)) ⌝ }
+// The flag of an item, counted from 1 on: 0 of a null.
+fn flag_of(slot: usize) -> u8
+    ensures { λ r. ⌜ (slot ≡ 0 → r ≡ 0) × (0 < slot → r ≡ 1) ⌝ }
 {
-    if rows == 0 {
-        return;
-    }
-    let x = flag(s, marks, items, i);
-    area::fill_bytes(flags, to, rows, x);
+    if slot == 0 { 0 } else { 1 }
 }
 
 // Writes the flags of the next `n` rows, run by run.
@@ -275,50 +473,124 @@ pub fn put_flags(
     requires { ⌜ Ready s (now marks) (now items) × Starts s from n × Writes (goodBy s (now marks) (now items)) (stepsIn (s .coded) (s .runs) (now counts) n from) n (length (now flags)) ⌝ }
     ensures { λ _. ⌜ now (flags .exit) ≡ sets (now (flags .entry)) 0 (map (flagBy s (now (marks .entry)) (now (items .entry))) (runsOf (stepsIn (s .coded) (s .runs) (now (counts .entry)) n from))) ⌝ }
 {
-    let coded = s.coded;
-    let runs = s.runs;
     let mut at = from;
     let mut left = n;
     let mut to: usize = 0;
     while 0 < left {
-        let piece = rle::take_piece(coded, counts, runs, at, left);
-        let Piece::Rows { rows, next } = piece else {
-            return;
-        };
-        put_flag(s, marks, items, at.run, rows, flags, to);
+        let run = next_run(s, counts, marks, items, at, left);
+        let rows = run.rows;
+        let next = run.next;
+        area::fill_bytes(flags, to, rows, flag_of(run.slot));
         to += rows;
         left -= rows;
         at = next;
     }
 }
 
-// Writes `rows` rows of place `i`: their bytes from `at` on and their ends. What comes back is where the bytes end.
+// The bytes of a char item, counted from 1 on, and of a blob: none of a null.
+fn char_of(w: usize, n: usize, items: &[u8], slot: usize) -> Range
+    requires { ⌜ (slot ≤ n) × (n ≤ 1048576) × (w < 256) × (leastBytes (Char w) n ≤ length (now items)) ⌝ }
+    ensures { λ r. ⌜ (r .from + r .len ≤ length (now (items .entry))) × (take (r .len) (drop (r .from) (now (items .entry))) ≡ textOf (Char w) n (now (items .entry)) slot) ⌝ }
+{
+    if slot == 0 {
+        return Range { from: 0, len: 0 };
+    }
+    plain::char_at(w, n, items, slot - 1)
+}
+
+fn blob_of(n: usize, items: &[u8], slot: usize) -> Range
+    requires { ⌜ (slot ≤ n) × (n ≤ 1048576) × (leastBytes Blob n ≤ length (now items)) × (0 < slot → endsGood Blob n (now items) (slot - 1) ≡ true) ⌝ }
+    ensures { λ r. ⌜ (r .from + r .len ≤ length (now (items .entry))) × (take (r .len) (drop (r .from) (now (items .entry))) ≡ textOf Blob n (now (items .entry)) slot) ⌝ }
+{
+    if slot == 0 {
+        return Range { from: 0, len: 0 };
+    }
+    plain::blob_at(n, items, slot - 1)
+}
+
+// Writes `rows` rows of one text: its bytes from `at` on, and the ends. What comes back is where the bytes end.
 fn put_text(
-    s: Source,
-    marks: &[u8],
     items: &[u8],
-    i: usize,
+    range: Range,
     rows: usize,
     ends: &mut [u32],
     to: usize,
     bytes: &mut [u8],
     at: usize,
 ) -> usize
-    requires { ⌜ Ready s (now marks) (now items) × (0 < rows → goodBy s (now marks) (now items) i ≡ true) × (to + rows ≤ length (now ends)) × (at + rows * sizeBy s (now marks) (now items) i ≤ length (now bytes)) × (at + rows * sizeBy s (now marks) (now items) i < 2 ^ 32) ⌝ }
-    ensures { λ r. ⌜ r ≡ at + rows * sizeBy s (now (marks .entry)) (now (items .entry)) i ⌝ }
-    ensures { λ _. ⌜ now (ends .exit) ≡ sets (now (ends .entry)) to (climbs rows at (sizeBy s (now (marks .entry)) (now (items .entry)) i)) ⌝ }
-    ensures { λ _. ⌜ now (bytes .exit) ≡ sets (now (bytes .entry)) at (repeats rows (textBy s (now (marks .entry)) (now (items .entry)) i)) ⌝ }
+    requires { ⌜ (range .from + range .len ≤ length (now items)) × (length (now items) ≤ 16777216) × (to + rows ≤ length (now ends)) × (at + rows * range .len ≤ length (now bytes)) × (at + rows * range .len < 2 ^ 32) ⌝ }
+    ensures { λ r. ⌜ r ≡ at + rows * range .len ⌝ }
+    ensures { λ _. ⌜ now (ends .exit) ≡ sets (now (ends .entry)) to (climbs rows at (range .len)) ⌝ }
+    ensures { λ _. ⌜ now (bytes .exit) ≡ sets (now (bytes .entry)) at (repeats rows (take (range .len) (drop (range .from) (now (items .entry))))) ⌝ }
 {
-    if rows == 0 {
-        return at;
-    }
-    let range = text(s, marks, items, i);
     area::copies(items, range.from, range.len, bytes, at, rows);
     area::climb(ends, to, rows, at as u32, range.len as u32);
     at + rows * range.len
 }
 
-// Writes the bytes and the ends of the next `n` rows, run by run.
+// Writes the bytes and the ends of the next `n` rows, run by run: a loop for char and one for blob.
+fn put_chars(
+    w: usize,
+    s: Source,
+    counts: &[u8],
+    marks: &[u8],
+    items: &[u8],
+    from: Spot,
+    n: usize,
+    ends: &mut [u32],
+    bytes: &mut [u8],
+)
+    requires { ⌜ Ready s (now marks) (now items) × Starts s from n × (s .kind ≡ Char w) × Writes (goodBy s (now marks) (now items)) (stepsIn (s .coded) (s .runs) (now counts) n from) n (length (now ends)) × (sumOf (sizeBy s (now marks) (now items)) (runsOf (stepsIn (s .coded) (s .runs) (now counts) n from)) ≤ length (now bytes)) × (sumOf (sizeBy s (now marks) (now items)) (runsOf (stepsIn (s .coded) (s .runs) (now counts) n from)) < 2 ^ 32) × (w < 256) ⌝ }
+    ensures { λ _. ⌜ now (ends .exit) ≡ sets (now (ends .entry)) 0 (endsFrom 0 (map (textBy s (now (marks .entry)) (now (items .entry))) (runsOf (stepsIn (s .coded) (s .runs) (now (counts .entry)) n from)))) ⌝ }
+    ensures { λ _. ⌜ now (bytes .exit) ≡ sets (now (bytes .entry)) 0 (joined (textBy s (now (marks .entry)) (now (items .entry))) (runsOf (stepsIn (s .coded) (s .runs) (now (counts .entry)) n from))) ⌝ }
+{
+    let mut place = from;
+    let mut left = n;
+    let mut to: usize = 0;
+    let mut at: usize = 0;
+    while 0 < left {
+        let run = next_run(s, counts, marks, items, place, left);
+        let rows = run.rows;
+        let next = run.next;
+        let range = char_of(w, s.items, items, run.slot);
+        at = put_text(items, range, rows, ends, to, bytes, at);
+        to += rows;
+        left -= rows;
+        place = next;
+    }
+}
+
+fn put_blobs(
+    s: Source,
+    counts: &[u8],
+    marks: &[u8],
+    items: &[u8],
+    from: Spot,
+    n: usize,
+    ends: &mut [u32],
+    bytes: &mut [u8],
+)
+    requires { ⌜ Ready s (now marks) (now items) × Starts s from n × (s .kind ≡ Blob) × Writes (goodBy s (now marks) (now items)) (stepsIn (s .coded) (s .runs) (now counts) n from) n (length (now ends)) × (sumOf (sizeBy s (now marks) (now items)) (runsOf (stepsIn (s .coded) (s .runs) (now counts) n from)) ≤ length (now bytes)) × (sumOf (sizeBy s (now marks) (now items)) (runsOf (stepsIn (s .coded) (s .runs) (now counts) n from)) < 2 ^ 32) ⌝ }
+    ensures { λ _. ⌜ now (ends .exit) ≡ sets (now (ends .entry)) 0 (endsFrom 0 (map (textBy s (now (marks .entry)) (now (items .entry))) (runsOf (stepsIn (s .coded) (s .runs) (now (counts .entry)) n from)))) ⌝ }
+    ensures { λ _. ⌜ now (bytes .exit) ≡ sets (now (bytes .entry)) 0 (joined (textBy s (now (marks .entry)) (now (items .entry))) (runsOf (stepsIn (s .coded) (s .runs) (now (counts .entry)) n from))) ⌝ }
+{
+    let mut place = from;
+    let mut left = n;
+    let mut to: usize = 0;
+    let mut at: usize = 0;
+    while 0 < left {
+        let run = next_run(s, counts, marks, items, place, left);
+        let rows = run.rows;
+        let next = run.next;
+        let range = blob_of(s.items, items, run.slot);
+        at = put_text(items, range, rows, ends, to, bytes, at);
+        to += rows;
+        left -= rows;
+        place = next;
+    }
+}
+
+// Writes the bytes and the ends of the next `n` rows of char or blob.
 pub fn put_texts(
     s: Source,
     counts: &[u8],
@@ -329,24 +601,14 @@ pub fn put_texts(
     ends: &mut [u32],
     bytes: &mut [u8],
 )
-    requires { ⌜ Ready s (now marks) (now items) × Starts s from n × Writes (goodBy s (now marks) (now items)) (stepsIn (s .coded) (s .runs) (now counts) n from) n (length (now ends)) × (sumOf (sizeBy s (now marks) (now items)) (runsOf (stepsIn (s .coded) (s .runs) (now counts) n from)) ≤ length (now bytes)) × (sumOf (sizeBy s (now marks) (now items)) (runsOf (stepsIn (s .coded) (s .runs) (now counts) n from)) < 2 ^ 32) ⌝ }
+    requires { ⌜ Ready s (now marks) (now items) × Starts s from n × Writes (goodBy s (now marks) (now items)) (stepsIn (s .coded) (s .runs) (now counts) n from) n (length (now ends)) × (sumOf (sizeBy s (now marks) (now items)) (runsOf (stepsIn (s .coded) (s .runs) (now counts) n from)) ≤ length (now bytes)) × (sumOf (sizeBy s (now marks) (now items)) (runsOf (stepsIn (s .coded) (s .runs) (now counts) n from)) < 2 ^ 32) × Texts (s .kind) ⌝ }
     ensures { λ _. ⌜ now (ends .exit) ≡ sets (now (ends .entry)) 0 (endsFrom 0 (map (textBy s (now (marks .entry)) (now (items .entry))) (runsOf (stepsIn (s .coded) (s .runs) (now (counts .entry)) n from)))) ⌝ }
     ensures { λ _. ⌜ now (bytes .exit) ≡ sets (now (bytes .entry)) 0 (joined (textBy s (now (marks .entry)) (now (items .entry))) (runsOf (stepsIn (s .coded) (s .runs) (now (counts .entry)) n from))) ⌝ }
 {
-    let coded = s.coded;
-    let runs = s.runs;
-    let mut place = from;
-    let mut left = n;
-    let mut to: usize = 0;
-    let mut at: usize = 0;
-    while 0 < left {
-        let piece = rle::take_piece(coded, counts, runs, place, left);
-        let Piece::Rows { rows, next } = piece else {
-            return;
-        };
-        at = put_text(s, marks, items, place.run, rows, ends, to, bytes, at);
-        to += rows;
-        left -= rows;
-        place = next;
+    let kind = s.kind;
+    match kind {
+        Kind::Fixed(_) => {}
+        Kind::Char(w) => put_chars(w as usize, s, counts, marks, items, from, n, ends, bytes),
+        Kind::Blob => put_blobs(s, counts, marks, items, from, n, ends, bytes),
     }
 }

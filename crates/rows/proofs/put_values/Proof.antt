@@ -1,94 +1,78 @@
--- `rows::put_values` meets its contract. The loop keeps that the values of the rows done stand in the area; the measure is the rows and the runs left.
--- Assumes nothing.
-use Prim.Native.Nat.{_+_, _-_}
+-- `rows::put_values` meets its contract: each arm's loop writes the values of the kind that the arm found, or of one of the same layout. Assumes nothing.
+use mathlib.Core.Path.{ap}
 use borrow.Author.Needs.{needs}
-use lib.IntN.{ℤ}
-use native.Mathlib.Omega.{arith}
-use Rattle.rows.specs.Rows.{intBy}
-use Rattle.rows.proofs.Going as pieces
-use Rattle.rows.proofs.Putting as laws
+use Rattle.encode.specs.Kinds.{layoutOf}
+use Rattle.encode.specs.declared.Primitive.the-variants.{Bool as Boolean, I16, I32, I64, Date, Timestamp}
+use Rattle.plain.proofs.Items.{as-timestamp}
+use Rattle.rows.proofs.Values.{room-found, values-found}
 use Rattle.rows.proofs.put_values.Statement.{statement}
 use Rattle.rows.proofs.put_values.Tie as tie
 
-abbrev Inv-loop : tie.InvT-loop
-Inv-loop p s counts marks items n values₀ coded runs at₀ left₀ to₀ values at left to = laws.Storing ℤ (intBy s marks items) coded runs counts n at₀ values₀ at left to values
+put-bools-requires : tie.Need-put-bools-requires
+put-bools-requires c κs =
+    let s = c .before .before .before .before .before .before in
+    (s .pre .0, s .pre .1, room-found Boolean (ap layoutOf (c .before .enum-told .given .1)) (s .args .s) (s .pre .2) (s .args .marks .now) (s .args .items .now) (s .pre .0), s .pre .3)
 
-abbrev μ-loop : tie.MeasureT-loop
-μ-loop p s counts marks items n values₀ coded runs at₀ left₀ to₀ values at left to = left + (runs - at .run)
+put-i16s-requires : tie.Need-put-i16s-requires
+put-i16s-requires c κs =
+    let s = c .before .before .before .before .before .before in
+    (s .pre .0, s .pre .1, room-found I16 (ap layoutOf (c .before .enum-told2 .given .1)) (s .args .s) (s .pre .2) (s .args .marks .now) (s .args .items .now) (s .pre .0), s .pre .3)
 
-loop-holds : tie.Need-loop-holds Inv-loop μ-loop
-loop-holds c = laws.storing-start _ _ _ _ _ _ (c .before .before .before .args .values .now) (c .before .before .before .pre .1)
+put-i32s-requires : tie.Need-put-i32s-requires
+put-i32s-requires c κs =
+    let s = c .before .before .before .before .before .before in
+    (s .pre .0, s .pre .1, room-found I32 (ap layoutOf (c .before .enum-told3 .given .1)) (s .args .s) (s .pre .2) (s .args .marks .now) (s .args .items .now) (s .pre .0), s .pre .3)
 
-take-piece-requires : tie.Need-take-piece-requires Inv-loop μ-loop
-take-piece-requires c κs = pieces.starts-few _ _ _ _ (c .before .before .before .before .before .pre .0 .short) (c .before .loop .inv .going .starts)
+put-i64s-requires : tie.Need-put-i64s-requires
+put-i64s-requires c κs =
+    let s = c .before .before .before .before .before .before in
+    (s .pre .0, s .pre .1, room-found I64 (ap layoutOf (c .before .enum-told4 .given .1)) (s .args .s) (s .pre .2) (s .args .marks .now) (s .args .items .now) (s .pre .0), s .pre .3)
 
-enum-known-piece : tie.Need-enum-known-piece Inv-loop μ-loop
-enum-known-piece c = search needs
+put-dates-requires : tie.Need-put-dates-requires
+put-dates-requires c κs =
+    let s = c .before .before .before .before .before .before in
+    (s .pre .0, s .pre .1, room-found Date (ap layoutOf (c .before .enum-told5 .given .1)) (s .args .s) (s .pre .2) (s .args .marks .now) (s .args .items .now) (s .pre .0), s .pre .3)
 
-enum-told : tie.Need-enum-told Inv-loop μ-loop
-enum-told c = search needs
+put-timestamps-requires : tie.Need-put-timestamps-requires
+put-timestamps-requires c κs =
+    let s = c .before .before .before .before .before in
+    (s .pre .0, s .pre .1, room-found Timestamp (as-timestamp (s .args .p) (c .before .match .keys6)) (s .args .s) (s .pre .2) (s .args .marks .now) (s .args .items .now) (s .pre .0), s .pre .3)
 
-same-length : tie.Need-same-length Inv-loop μ-loop
-same-length c = laws.storing-long (c .before .before .before .before .loop .inv)
-
-returns : tie.Need-returns Inv-loop μ-loop
+returns : tie.Need-returns
 returns c =
-    absurd (pieces.going-never (c .before .before .before .before .loop .inv .going) (omega arith) (c .before .before .take-piece .ensures) (c .before .before .before .before .before .before .before .before .pre .3 .fine) (c .enum-told .given .1))
+    let s = c .before .before .before .before .before .before .before .before in
+    values-found Boolean (ap layoutOf (c .before .before .before .enum-told .given .1)) (s .args .s) (s .pre .2) (s .args .marks .now) (s .args .items .now) (s .args .counts .now) (s .args .n) (s .args .from) (s .args .values .now) (c .before .put-bools .ensures)
 
-put-value-requires : tie.Need-put-value-requires Inv-loop μ-loop
-put-value-requires c κs =
-    let d = c .before .before in
-    let w = d .before .before .before .before .loop .inv in
-    let s = c .before .before .before .before .before .before .before .before .before .before in (
-      s .pre .0,
-      pieces.going-good (w .going) (omega arith) (d .before .before .take-piece .ensures) (d .piece .given .1) (s .pre .3),
-      s .pre .2,
-      omega (arith, laws.storing-room w (omega arith) (d .before .before .take-piece .ensures) (d .piece .given .1) (s .pre .3 .rows)),
-    )
+returns-2 : tie.Need-returns-2
+returns-2 c =
+    let s = c .before .before .before .before .before .before .before .before in
+    values-found I16 (ap layoutOf (c .before .before .before .enum-told2 .given .1)) (s .args .s) (s .pre .2) (s .args .marks .now) (s .args .items .now) (s .args .counts .now) (s .args .n) (s .args .from) (s .args .values .now) (c .before .put-i16s .ensures)
 
-add-to : tie.Need-add-to Inv-loop μ-loop
-add-to c =
-    let d = c .before .before .before .before in
-    let w = d .before .before .before .before .loop .inv in
-    omega (arith, pieces.going-place (w .going) (omega arith) (d .before .before .take-piece .ensures) (d .piece .given .1) (w .place), c .before .before .before .before .before .before .before .before .before .before .before .before .fits .n)
+returns-3 : tie.Need-returns-3
+returns-3 c =
+    let s = c .before .before .before .before .before .before .before .before in
+    values-found I32 (ap layoutOf (c .before .before .before .enum-told3 .given .1)) (s .args .s) (s .pre .2) (s .args .marks .now) (s .args .items .now) (s .args .counts .now) (s .args .n) (s .args .from) (s .args .values .now) (c .before .put-i32s .ensures)
 
-sub-left : tie.Need-sub-left Inv-loop μ-loop
-sub-left c =
-    let d = c .before .before .before .before in
-    omega (arith, pieces.going-most (d .before .before .before .before .loop .inv .going) (omega arith) (d .before .before .take-piece .ensures) (d .piece .given .1))
+returns-4 : tie.Need-returns-4
+returns-4 c =
+    let s = c .before .before .before .before .before .before .before .before in
+    values-found I64 (ap layoutOf (c .before .before .before .enum-told4 .given .1)) (s .args .s) (s .pre .2) (s .args .marks .now) (s .args .items .now) (s .args .counts .now) (s .args .n) (s .args .from) (s .args .values .now) (c .before .put-i64s .ensures)
 
-loop-less : tie.Need-loop-less Inv-loop μ-loop
-loop-less c =
-    let d = c .before .before .before .before in
-    pieces.going-less (d .before .before .before .before .loop .inv .going) (omega arith) (d .before .before .take-piece .ensures) (d .piece .given .1)
+returns-5 : tie.Need-returns-5
+returns-5 c =
+    let s = c .before .before .before .before .before .before .before .before in
+    values-found Date (ap layoutOf (c .before .before .before .enum-told5 .given .1)) (s .args .s) (s .pre .2) (s .args .marks .now) (s .args .items .now) (s .args .counts .now) (s .args .n) (s .args .from) (s .args .values .now) (c .before .put-dates .ensures)
 
-loop-again : tie.Need-loop-again Inv-loop μ-loop
-loop-again c =
-    let d = c .before .before .before .before in
-    laws.storing-on (d .before .before .before .before .loop .inv) (omega arith) (d .before .before .take-piece .ensures) (d .piece .given .1) (c .before .put-value .ensures)
-
-same-length-2 : tie.Need-same-length-2 Inv-loop μ-loop
-same-length-2 c = laws.storing-long (c .before .loop .inv)
-
-returns-2 : tie.Need-returns-2 Inv-loop μ-loop
-returns-2 c = laws.storing-end (c .before .loop .inv) (omega arith)
+returns-6 : tie.Need-returns-6
+returns-6 c =
+    let s = c .before .before .before .before .before .before .before in
+    values-found Timestamp (as-timestamp (s .args .p) (c .before .before .before .match .keys6)) (s .args .s) (s .pre .2) (s .args .marks .now) (s .args .items .now) (s .args .counts .now) (s .args .n) (s .args .from) (s .args .values .now) (c .before .put-timestamps .ensures)
 
 pub put-values-spec : {M : Type 1} → statement M
 put-values-spec =
     tie.close
     (tie.spec
-    Inv-loop
-    μ-loop
-    loop-holds
-    take-piece-requires
-    enum-known-piece
-    enum-told
-    same-length
-    returns
-    put-value-requires
-    add-to
-    sub-left
-    loop-less
-    loop-again
-    same-length-2
-    returns-2)
+    (λ c. search needs) put-bools-requires (λ c. search needs) put-i16s-requires (λ c. search needs) put-i32s-requires
+    (λ c. search needs) put-i64s-requires (λ c. search needs) put-dates-requires put-timestamps-requires
+    (λ c. search needs) returns (λ c. search needs) returns-2 (λ c. search needs) returns-3
+    (λ c. search needs) returns-4 (λ c. search needs) returns-5 (λ c. search needs) returns-6)

@@ -11,7 +11,8 @@ shown-requires c κs = search needs
 returns : tie.Need-returns
 returns c =
     let a = c .before .before .before .before .args in
-    places.text-null (a .s) (a .marks .now) (a .items .now) (a .i) (c .before .shown .ensures .0) (c .if1 .taken)
+    let q = places.text-none (a .s .kind) (a .s .items) (a .items .now) _ (c .if1 .taken) in
+    (q .0, places.text-shown (a .s) (a .marks .now) (a .items .now) (a .i) (c .before .shown .ensures .0) (q .1))
 
 sub-range-at : tie.Need-sub-range-at
 sub-range-at c = search needs
@@ -24,7 +25,8 @@ range-at-requires c κs =
 returns-2 : tie.Need-returns-2
 returns-2 c =
     let a = c .before .before .before .before .before .args in
-    (c .range-at .ensures .0, places.text-item (a .s) (a .marks .now) (a .items .now) (a .i) (c .before .before .shown .ensures .0) (c .before .if1 .left) (c .range-at .ensures .1))
+    let q = places.text-some (a .s .kind) (a .s .items) (a .items .now) _ (c .before .if1 .left) (c .range-at .ensures .1) in
+    (c .range-at .ensures .0, places.text-shown (a .s) (a .marks .now) (a .items .now) (a .i) (c .before .before .shown .ensures .0) q)
 
 pub text-spec : {M : Type 1} → statement M
 text-spec = tie.close (tie.spec shown-requires returns sub-range-at range-at-requires returns-2)

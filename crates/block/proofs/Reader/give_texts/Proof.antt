@@ -66,7 +66,7 @@ write-texts-requires : tie.Need-write-texts-requires
 write-texts-requires c κs = let a = c .before .before .before .before .before .before .before .before .before .before .before .before .before .before .args in
     let l = looked-total (a .parts) (a .self) (a .block .now) (a .n) (sym (c .before .before .before .before .before .before .before .weighed .given .1) ∙ c .before .before .before .before .before .before .before .before .before .look .ensures) in
     let f = sum-fits (a .parts) (a .self) (a .block .now) (a .n) (l .steps) _ (length (a .bytes .now)) (l .weight) (omega arith) (omega arith) in
-    (c .before .before .before .before .before .before .before .before .before .before .before .before .before .before .pre .0, writes (a .parts) (a .self) (a .block .now) (a .n) (length (a .ends .now)) (l .steps) (l .right) (omega arith), f .0, f .1)
+    (c .before .before .before .before .before .before .before .before .before .before .before .before .before .before .pre .0, writes (a .parts) (a .self) (a .block .now) (a .n) (length (a .ends .now)) (l .steps) (l .right) (omega arith), f .0, f .1, c .before .before .before .before .before .before .before .before .before .before .before .before .before .before .pre .1)
 
 write-flags-requires : tie.Need-write-flags-requires
 write-flags-requires c κs = let a = c .before .before .before .before .before .before .before .before .before .before .before .before .before .before .before .before .before .before .before .before .args in

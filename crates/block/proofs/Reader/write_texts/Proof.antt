@@ -1,5 +1,6 @@
 -- `Reader::write_texts` meets its contract, by the laws of the steps that it takes. Assumes nothing.
 use Rattle.block.specs.Parts.{partIn, stepsBy}
+use Rattle.block.proofs.Giving.{is-text}
 use borrow.Author.Needs.{needs}
 use Rattle.block.proofs.Reader.write_texts.Statement.{statement}
 use Rattle.block.proofs.Reader.write_texts.Tie as tie
@@ -36,7 +37,7 @@ part-put-texts-end-3 c = search needs
 
 put-texts-requires : tie.Need-put-texts-requires
 unfolding partIn stepsBy
-put-texts-requires c κs = (c .before .before .before .before .before .before .before .before .before .before .before .before .before .pre .0 .ready, rw (c .before .before .before .before .before .before .before .before .spot .ensures) (c .before .before .before .before .before .before .before .before .before .before .before .before .before .pre .0 .starts), rw (c .before .before .before .before .before .before .before .before .spot .ensures) (c .before .before .before .before .before .before .before .before .before .before .before .before .before .pre .1), rw (c .before .before .before .before .before .before .before .before .spot .ensures) (c .before .before .before .before .before .before .before .before .before .before .before .before .before .pre .2), rw (c .before .before .before .before .before .before .before .before .spot .ensures) (c .before .before .before .before .before .before .before .before .before .before .before .before .before .pre .3))
+put-texts-requires c κs = (c .before .before .before .before .before .before .before .before .before .before .before .before .before .pre .0 .ready, rw (c .before .before .before .before .before .before .before .before .spot .ensures) (c .before .before .before .before .before .before .before .before .before .before .before .before .before .pre .0 .starts), rw (c .before .before .before .before .before .before .before .before .spot .ensures) (c .before .before .before .before .before .before .before .before .before .before .before .before .before .pre .1), rw (c .before .before .before .before .before .before .before .before .spot .ensures) (c .before .before .before .before .before .before .before .before .before .before .before .before .before .pre .2), rw (c .before .before .before .before .before .before .before .before .spot .ensures) (c .before .before .before .before .before .before .before .before .before .before .before .before .before .pre .3), is-text _ (c .before .before .before .before .before .before .before .before .before .before .before .before .before .pre .4))
 
 same-length : tie.Need-same-length
 same-length c = search needs

@@ -1,0 +1,89 @@
+-- Rows that are accepted one by one: each fits its kind, and the whole list is within the limits. Assumes nothing.
+use Prim.Native.Nat.{_≤_}
+use mathlib.Core.Bool.{Bool, true, _&&_, and-eq-true-iff}
+use mathlib.Core.List.{List, [], _∷_, _++_, append-nil}
+use mathlib.Core.Path.{_≡_, refl}
+use lib.Dec.{leb}
+use lib.ListN.{length}
+use lib.Seq.{append-snoc}
+use borrow.Author.Tests.{leb-true}
+use Rattle.encode.specs.declared.Kind.{Kind}
+use Rattle.encode.specs.declared.Kind.the-variants.{Fixed, Char, Blob}
+use Rattle.plain.specs.Rows.{Row, fits}
+use Rattle.plain.specs.Plain.{joined, places, endsFrom, plainOf}
+use Rattle.nullable.specs.Nullable.{bitmapLength, bitmapOf, nullableOf}
+use Rattle.rle.specs.RunLength.{runsOf, runLengthOf}
+use Rattle.dict.specs.Dictionary.{entriesAfter, entriesOf, keyBlockOf, dictionaryOf}
+use Rattle.format.specs.declared.Encoding.{Encoding}
+use Rattle.format.specs.declared.Encoding.the-variants.{Plain, Nullable, RunLength, RunLengthNullable, Dictionary}
+use Rattle.format.specs.Blocks.{blockOf}
+use Rattle.format.specs.Sizes.{keysOf, storedItems, storedEntries, withinLimits, acceptedAfter, accepted}
+use Rattle.stored.proofs.Lists.{Each}
+use Rattle.stored.proofs.Plains.{Fits}
+
+pub record Limits (k : Kind) (e : Encoding) (rows : List Row) : Type 0 where
+  pub total : length rows ≤ 281474976710655
+  pub items : storedItems e rows ≤ 1048576
+  pub entries : storedEntries e rows ≤ 65536
+  pub size : length (blockOf k e rows) ≤ 16777216
+
+module _ (k : Kind) (e : Encoding) where
+  limits : (rows : List Row) → withinLimits k e rows ≡ true → Limits k e rows
+  unfolding withinLimits
+  limits rows h =
+      let a : Bool = leb (length rows) 281474976710655 in
+      let b : Bool = leb (storedItems e rows) 1048576 in
+      let c : Bool = leb (storedEntries e rows) 65536 in
+      let d : Bool = leb (length (blockOf k e rows)) 16777216 in
+      let x = and-eq-true-iff (a && b && c) d .0 h in
+      let y = and-eq-true-iff (a && b) c .0 (x .0) in
+      let z = and-eq-true-iff a b .0 (y .0) in
+      record {
+        total = leb-true (length rows) 281474976710655 (z .0);
+        items = leb-true (storedItems e rows) 1048576 (z .1);
+        entries = leb-true (storedEntries e rows) 65536 (y .1);
+        size = leb-true (length (blockOf k e rows)) 16777216 (x .1);
+      }
+
+  after-fits : (done rows : List Row) → acceptedAfter k e done rows ≡ true → Each (Fits k) rows
+  unfolding acceptedAfter
+  after-fits done [] h = tt
+  after-fits done (r ∷ rows) h =
+      let x = and-eq-true-iff (fits k r && withinLimits k e (done ++ (r ∷ []))) (acceptedAfter k e (done ++ (r ∷ [])) rows) .0 h in
+      (and-eq-true-iff (fits k r) (withinLimits k e (done ++ (r ∷ []))) .0 (x .0) .0, after-fits (done ++ (r ∷ [])) rows (x .1))
+
+  after-within : (done rows : List Row) → withinLimits k e done ≡ true → acceptedAfter k e done rows ≡ true → withinLimits k e (done ++ rows) ≡ true
+  unfolding acceptedAfter
+  after-within done [] w h = rw (append-nil done) w
+  after-within done (r ∷ rows) w h =
+      let x = and-eq-true-iff (fits k r && withinLimits k e (done ++ (r ∷ []))) (acceptedAfter k e (done ++ (r ∷ [])) rows) .0 h in
+      let y = and-eq-true-iff (fits k r) (withinLimits k e (done ++ (r ∷ []))) .0 (x .0) in
+      rw (append-snoc done r rows) at (after-within (done ++ (r ∷ [])) rows (y .1) (x .1))
+
+-- no rows are within the limits
+none-within : (k : Kind) (e : Encoding) → withinLimits k e [] ≡ true
+unfolding withinLimits storedItems storedEntries blockOf plainOf joined endsFrom nullableOf bitmapOf bitmapLength places runsOf runLengthOf keysOf entriesOf entriesAfter keyBlockOf dictionaryOf
+none-within (Fixed p) Plain = refl
+none-within (Fixed p) Nullable = refl
+none-within (Fixed p) RunLength = refl
+none-within (Fixed p) RunLengthNullable = refl
+none-within (Fixed p) Dictionary = refl
+none-within (Char w) Plain = refl
+none-within (Char w) Nullable = refl
+none-within (Char w) RunLength = refl
+none-within (Char w) RunLengthNullable = refl
+none-within (Char w) Dictionary = refl
+none-within Blob Plain = refl
+none-within Blob Nullable = refl
+none-within Blob RunLength = refl
+none-within Blob RunLengthNullable = refl
+none-within Blob Dictionary = refl
+
+module _ (k : Kind) (e : Encoding) (rows : List Row) (h : accepted k e rows ≡ true) where
+  pub accepted-fits : Each (Fits k) rows
+  unfolding accepted
+  accepted-fits = after-fits k e [] rows h
+
+  pub accepted-limits : Limits k e rows
+  unfolding accepted
+  accepted-limits = limits k e rows (after-within k e [] rows (none-within k e) h)

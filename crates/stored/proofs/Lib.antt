@@ -1,0 +1,13 @@
+pub mod Lists
+pub mod Plains
+pub mod Nullables
+pub mod Runs
+pub mod RunLengths
+pub mod Entries
+pub mod Dictionaries
+pub mod Accepted
+pub mod Blocks
+pub mod Counts
+pub mod SameBlock
+pub mod Keys
+pub mod Words
