@@ -85,3 +85,43 @@ pub fn climb(dst: &mut [u32], at: usize, n: usize, start: u32, step: u32)
         left -= 1;
     }
 }
+
+// The first byte of an item at `at`; its first two; its first four; all eight.
+pub fn put1(item: [u8; 8], dst: &mut [u8], at: usize)
+    requires { ⌜ at + 1 ≤ length (now dst) ⌝ }
+    ensures { λ _. ⌜ now (dst .exit) ≡ sets (now (dst .entry)) at (take 1 item) ⌝ }
+{
+    dst[at] = item[0];
+}
+
+pub fn put2(item: [u8; 8], dst: &mut [u8], at: usize)
+    requires { ⌜ at + 2 ≤ length (now dst) ⌝ }
+    ensures { λ _. ⌜ now (dst .exit) ≡ sets (now (dst .entry)) at (take 2 item) ⌝ }
+{
+    dst[at] = item[0];
+    dst[at + 1] = item[1];
+}
+
+pub fn put4(item: [u8; 8], dst: &mut [u8], at: usize)
+    requires { ⌜ at + 4 ≤ length (now dst) ⌝ }
+    ensures { λ _. ⌜ now (dst .exit) ≡ sets (now (dst .entry)) at (take 4 item) ⌝ }
+{
+    dst[at] = item[0];
+    dst[at + 1] = item[1];
+    dst[at + 2] = item[2];
+    dst[at + 3] = item[3];
+}
+
+pub fn put8(item: [u8; 8], dst: &mut [u8], at: usize)
+    requires { ⌜ at + 8 ≤ length (now dst) ⌝ }
+    ensures { λ _. ⌜ now (dst .exit) ≡ sets (now (dst .entry)) at (take 8 item) ⌝ }
+{
+    dst[at] = item[0];
+    dst[at + 1] = item[1];
+    dst[at + 2] = item[2];
+    dst[at + 3] = item[3];
+    dst[at + 4] = item[4];
+    dst[at + 5] = item[5];
+    dst[at + 6] = item[6];
+    dst[at + 7] = item[7];
+}

@@ -1,0 +1,222 @@
+-- The record with one row more, on each way through the code of recording. Assumes nothing.
+use Prim.Native.Nat.{ℕ, _+_, _-_, _≤_, _<_, _^_}
+use native.Mathlib.Omega.{arith}
+use mathlib.Core.Path.{_≡_, refl, sym, ap, subst, _∙_}
+use mathlib.Core.Logic.{⊎-elim}
+use mathlib.Core.Bool.{Bool, true, false, cond, not, _&&_}
+use lib.Dec.{ltb}
+use lib.ListN.{length}
+use borrow.Author.Tests.{lt-ltb, ltb-true, ltb-false}
+use Rattle.varint.specs.Varint.{spelling}
+use Rattle.area.proofs.Laws.{lt-or-ge}
+use Rattle.varint.proofs.Spelling.{size1, size2, size3, size4, size5}
+use Rattle.encode.specs.declared.Kind.{Kind}
+use Rattle.format.specs.declared.Encoding.{Encoding}
+use Rattle.format.specs.declared.Encoding.the-variants.{Plain, Nullable, RunLength, RunLengthNullable, Dictionary}
+use Rattle.format.specs.declared.Column.{Column}
+use Rattle.format.specs.declared.Column.the-variants.{Of, Unknown}
+use Rattle.format.specs.Blocks.{columnOf}
+use Rattle.build.specs.declared.Builder.{Builder}
+use Rattle.build.specs.declared.Room.{Room}
+use Rattle.build.specs.declared.Created.{Created}
+use Rattle.build.specs.declared.Created.the-variants.{New, Refused}
+use Rattle.build.specs.Building.{empty, createdIn, created, growth, grown}
+use Rattle.build.specs.Needs.{coded, flagged, keyed, storedBy, innerBytes, runBytes, finishedBytes, countsPast, pastLimits, recordWrong, short}
+use Rattle.build.specs.Coding.{answer, answerBy}
+use Rattle.build.proofs.Recorded.{apart, neither, or-last, inner-least, run-some, Right, right, cond-then, cond-else}
+
+-- ---- creation
+module _ (kind encoding width target : ℕ) {c : Column} (p : c ≡ columnOf kind encoding width) where
+  pub refused : c ≡ Unknown → Refused 1 ≡ created kind encoding width target
+  unfolding created createdIn
+  refused q = ap (λ (x : Column). createdIn x (empty kind encoding width target)) (sym (sym p ∙ q))
+
+  pub new : {k : Kind} {e : Encoding} → c ≡ Of k e → New (empty kind encoding width target) ≡ created kind encoding width target
+  unfolding created createdIn
+  new q = ap (λ (x : Column). createdIn x (empty kind encoding width target)) (sym (sym p ∙ q))
+
+-- ---- a test under another
+module _ {A : Type 0} (p q : A) where
+  pub cond-both : {x a : Bool} → x ≡ a → x ≡ true → (b : Bool) → b ≡ true → p ≡ cond (a && b) p q
+  cond-both h t b u = subst (λ (y : Bool). p ≡ cond (y && b) p q) (sym t ∙ h) (subst (λ (y : Bool). p ≡ cond y p q) (sym u) refl)
+
+  pub cond-second : {x a : Bool} → x ≡ a → x ≡ true → (b : Bool) → b ≡ false → q ≡ cond (a && b) p q
+  cond-second h t b u = subst (λ (y : Bool). q ≡ cond (y && b) p q) (sym t ∙ h) (subst (λ (y : Bool). q ≡ cond y p q) (sym u) refl)
+
+  pub cond-first : {x a : Bool} → x ≡ a → x ≡ false → (b : Bool) → q ≡ cond (a && b) p q
+  cond-first h t b = subst (λ (y : Bool). q ≡ cond (y && b) p q) (sym t ∙ h) refl
+
+module _ {A : Type 0} {x a : Bool} (h : x ≡ a) (t : x ≡ true) (b : Bool) (p q o : A) where
+  pub cond-within : b ≡ true → p ≡ cond a (cond b p q) o
+  cond-within u = subst (λ (y : Bool). p ≡ cond y (cond b p q) o) (sym t ∙ h) (subst (λ (y : Bool). p ≡ cond y p q) (sym u) refl)
+
+  pub cond-without : b ≡ false → q ≡ cond a (cond b p q) o
+  cond-without u = subst (λ (y : Bool). q ≡ cond y (cond b p q) o) (sym t ∙ h) (subst (λ (y : Bool). q ≡ cond y p q) (sym u) refl)
+
+pub not-so : (b : Bool) → b ≡ true → not b ≡ false
+not-so b h = ap not h
+
+pub not-not : (b : Bool) → b ≡ false → not b ≡ true
+not-not b h = ap not h
+
+-- ---- the varint of the last count
+-- the next number's is no shorter, and none is longer than five bytes
+pub longer : (v : ℕ) → v < 4294967295 → (length (spelling v) ≤ length (spelling (v + 1))) × (length (spelling (v + 1)) ≤ 5)
+longer v h =
+    ⊎-elim (λ l. let e = size1 v l in
+    ⊎-elim (λ m. let f = size1 (v + 1) m in (omega arith, omega arith)) (λ m. let f = size2 (v + 1) m (omega arith) in (omega arith, omega arith)) (lt-or-ge (v + 1) 128))
+    (λ g. ⊎-elim (λ l. let e = size2 v g l in
+    ⊎-elim (λ m. let f = size2 (v + 1) (omega arith) m in (omega arith, omega arith)) (λ m. let f = size3 (v + 1) m (omega arith) in (omega arith, omega arith)) (lt-or-ge (v + 1) 16384))
+    (λ g. ⊎-elim (λ l. let e = size3 v g l in
+    ⊎-elim (λ m. let f = size3 (v + 1) (omega arith) m in (omega arith, omega arith)) (λ m. let f = size4 (v + 1) m (omega arith) in (omega arith, omega arith)) (lt-or-ge (v + 1) 2097152))
+    (λ g. ⊎-elim (λ l. let e = size4 v g l in
+    ⊎-elim (λ m. let f = size4 (v + 1) (omega arith) m in (omega arith, omega arith)) (λ m. let f = size5 (v + 1) m (omega arith) in (omega arith, omega arith)) (lt-or-ge (v + 1) 268435456))
+    (λ g. let e = size5 v g (omega arith) in let f = size5 (v + 1) (omega arith) (omega arith) in (omega arith, omega arith))
+    (lt-or-ge v 268435456))
+    (lt-or-ge v 2097152))
+    (lt-or-ge v 16384))
+    (lt-or-ge v 128)
+
+pub grows : (v : ℕ) {a b : ℕ} → v < 4294967295 → a ≡ length (spelling (v + 1)) → b ≡ length (spelling v) → (b ≤ a) × (a - b ≡ growth v) × (a - b ≤ 5)
+unfolding growth
+grows v {a} {b} h p q = let l = longer v h in (omega (arith, p, q), cc, omega (arith, p, q))
+
+-- ---- the fields
+module _ {x a : Bool} (h : x ≡ a) (t : x ≡ true) (b : Bool) where
+  pub null-not : (o : ℕ) → b ≡ true → 0 ≡ cond a (1 - cond b 1 0) o
+  null-not o u = subst (λ (y : Bool). 0 ≡ cond y (1 - cond b 1 0) o) (sym t ∙ h) (subst (λ (y : Bool). 0 ≡ 1 - cond y 1 0) (sym u) refl)
+
+  pub null-so : (o : ℕ) → b ≡ false → 1 ≡ cond a (1 - cond b 1 0) o
+  null-so o u = subst (λ (y : Bool). 1 ≡ cond y (1 - cond b 1 0) o) (sym t ∙ h) (subst (λ (y : Bool). 1 ≡ 1 - cond y 1 0) (sym u) refl)
+
+  pub counts-joined : (n : ℕ) → b ≡ true → (last : ℕ) {g : ℕ} → g ≡ growth last → n + g ≡ cond a (n + cond b (growth last) 1) n
+  counts-joined n u last {g} q =
+      ap (λ (m : ℕ). n + m) q
+      ∙ subst (λ (y : Bool). n + growth last ≡ cond y (n + cond b (growth last) 1) n) (sym t ∙ h)
+      (subst (λ (y : Bool). n + growth last ≡ n + cond y (growth last) 1) (sym u) refl)
+
+  pub counts-begun : (n : ℕ) → b ≡ false → (last : ℕ) → n + 1 ≡ cond a (n + cond b (growth last) 1) n
+  counts-begun n u last =
+      subst (λ (y : Bool). n + 1 ≡ cond y (n + cond b (growth last) 1) n) (sym t ∙ h)
+      (subst (λ (y : Bool). n + 1 ≡ n + cond y (growth last) 1) (sym u) refl)
+
+abbrev with-row : Builder → ℕ → ℕ → ℕ → ℕ → ℕ → ℕ → Builder
+with-row r runs entries len last isNull counts = record {
+  kind = r .kind;
+  encoding = r .encoding;
+  width = r .width;
+  target = r .target;
+  rows = r .rows + 1;
+  runs = runs;
+  entries = entries;
+  bytes = len;
+  last = last;
+  null = isNull;
+  counts = counts;
+}
+
+pub grown-as :
+    (e : Encoding) (r : Builder) (present : Bool) (len : ℕ) (stored joins : Bool)
+    → {a b c d f g : ℕ} → a ≡ cond (coded e && not joins) (r .runs + 1) (r .runs) → b ≡ cond (keyed e && stored) (r .entries + 1) (r .entries)
+    → c ≡ cond stored (r .bytes + len) (r .bytes) → d ≡ cond (coded e) (cond joins (r .last + 1) 1) (r .last)
+    → f ≡ cond (coded e) (1 - cond present 1 0) (r .null) → g ≡ cond (coded e) (r .counts + cond joins (growth (r .last)) 1) (r .counts)
+    → with-row r a b c d f g ≡ grown e r (cond present 1 0) len stored joins
+unfolding grown
+grown-as e r present len stored joins p q s t u v = rw (p, q, s, t, u, v) refl
+
+-- ---- the record with the row counted in
+growth-few : (v : ℕ) → v < 4294967295 → growth v ≤ 5
+unfolding growth
+growth-few v h = let l = longer v h in omega arith
+
+module _ (e : Encoding) (r : Builder) (bit len : ℕ) where
+  pub bytes-few : (stored joins : Bool) → r .bytes ≤ 16777216 → (stored ≡ true → len ≤ 16777216) → grown e r bit len stored joins .bytes ≤ 33554432
+  unfolding grown
+  bytes-few true joins h g = let l = g refl in omega arith
+  bytes-few false joins h g = omega arith
+
+  pub counts-few :
+      (stored joins : Bool) → (coded e ≡ true → r .counts ≤ 16777216) → (joins ≡ true → r .last < 4294967295) → coded e ≡ true
+      → grown e r bit len stored joins .counts ≤ 33554432
+  unfolding grown
+  counts-few stored true h g t =
+      let a = h t in
+      let b = growth-few (r .last) (g refl) in
+      let z : r .counts + growth (r .last) ≡ cond (coded e) (r .counts + growth (r .last)) (r .counts) = cond-then _ _ refl t in
+      omega arith
+  counts-few stored false h g t =
+      let a = h t in
+      let z : r .counts + 1 ≡ cond (coded e) (r .counts + 1) (r .counts) = cond-then _ _ refl t in
+      omega arith
+
+-- an item longer than any block passes the limit
+limit-past : (k : Kind) (e : Encoding) (r : Builder) → 16777216 < finishedBytes k e r → pastLimits k e r ≡ true
+unfolding pastLimits
+limit-past k e r h = sym (or-last (countsPast e r) (lt-ltb 16777216 (finishedBytes k e r) h))
+
+-- a row that is stored: the finished block is no shorter than the items
+pub finished-holds :
+    (k : Kind) (e : Encoding) (r : Builder) (bit len : ℕ) (joins : Bool) → (keyed e ≡ false → joins ≡ false)
+    → r .bytes + len ≤ finishedBytes k e (grown e r bit len true joins)
+unfolding finishedBytes grown keyed coded
+finished-holds k Plain r bit len joins h = inner-least k Plain (grown Plain r bit len true joins)
+finished-holds k Nullable r bit len joins h = inner-least k Nullable (grown Nullable r bit len true joins)
+finished-holds k RunLength r bit len true h = apart (h refl)
+finished-holds k RunLength r bit len false h =
+    let n = grown RunLength r bit len true false in
+    let i = inner-least k RunLength n in
+    let z = run-some n (innerBytes k RunLength n) (λ q. omega (arith, q)) in
+    omega arith
+finished-holds k RunLengthNullable r bit len true h = apart (h refl)
+finished-holds k RunLengthNullable r bit len false h =
+    let n = grown RunLengthNullable r bit len true false in
+    let i = inner-least k RunLengthNullable n in
+    let z = run-some n (innerBytes k RunLengthNullable n) (λ q. omega (arith, q)) in
+    omega arith
+finished-holds k Dictionary r bit len joins h = let i = inner-least k Dictionary (grown Dictionary r bit len true joins) in omega arith
+
+pub not-joined : (joins : Bool) → true ≡ not joins → joins ≡ false
+not-joined true h = apart h
+not-joined false h = refl
+
+pub long-past :
+    (k : Kind) (e : Encoding) (r : Builder) (m : Room) (bit len : ℕ) (stored joins : Bool) → (keyed e ≡ false → stored ≡ not joins)
+    → {x : Bool} → x ≡ (stored && ltb 16777216 len) → x ≡ true → answer 3 r ≡ answerBy k e r m (grown e r bit len stored joins)
+unfolding answerBy
+long-past k e r m bit len false joins h q t = apart (sym (sym q ∙ t))
+long-past k e r m bit len true joins h q t =
+    let g = ltb-true 16777216 len (sym q ∙ t) in
+    let n = grown e r bit len true joins in
+    cond-then (answer 3 r) (cond (short k e n m) (answer 4 r) (answer 0 n)) refl (limit-past k e n (omega (arith, finished-holds k e r bit len joins (λ z. not-joined joins (h z)))))
+
+pub long-not : (stored : Bool) (len : ℕ) {x : Bool} → x ≡ (stored && ltb 16777216 len) → x ≡ false → stored ≡ true → len ≤ 16777216
+long-not true len q t s = ltb-false 16777216 len (sym q ∙ t)
+long-not false len q t s = apart (sym s)
+
+module _ (k : Kind) (e : Encoding) (r : Builder) (m : Room) {n next : Builder} (p : n ≡ next) {x : Bool} (q : x ≡ pastLimits k e n) where
+  same-limits : x ≡ pastLimits k e next
+  same-limits = q ∙ ap (pastLimits k e) p
+
+  pub counted-limits : x ≡ true → answer 3 r ≡ answerBy k e r m next
+  unfolding answerBy
+  counted-limits t = cond-then (answer 3 r) (cond (short k e next m) (answer 4 r) (answer 0 next)) same-limits t
+
+  module _ (u : x ≡ false) {y : Bool} (o : y ≡ short k e n m) where
+    same-short : y ≡ short k e next m
+    same-short = o ∙ ap (λ (b : Builder). short k e b m) p
+
+    pub counted-short : y ≡ true → answer 4 r ≡ answerBy k e r m next
+    unfolding answerBy
+    counted-short t =
+        cond-then (answer 4 r) (answer 0 next) same-short t
+        ∙ cond-else (answer 3 r) (cond (short k e next m) (answer 4 r) (answer 0 next)) same-limits u
+
+    pub counted-done : y ≡ false → answer 0 n ≡ answerBy k e r m next
+    unfolding answerBy
+    counted-done t =
+        ap (answer 0) p ∙ cond-else (answer 4 r) (answer 0 next) same-short t
+        ∙ cond-else (answer 3 r) (cond (short k e next m) (answer 4 r) (answer 0 next)) same-limits u
+
+pub within : (k : Kind) (e : Encoding) (r : Builder) {x : Bool} → x ≡ pastLimits k e r → x ≡ false → countsPast e r ≡ false
+unfolding pastLimits
+within k e r q t = neither (countsPast e r) (ltb 16777216 (finishedBytes k e r)) (sym q ∙ t) .0

@@ -1,0 +1,14 @@
+-- `build::recording::too_long` meets its contract: each return by the law of the tests and arms that led there. Assumes nothing.
+use mathlib.Core.Path.{refl}
+use Rattle.build.proofs.Recorded.{and-then, and-not}
+use Rattle.build.proofs.recording.too_long.Statement.{statement}
+use Rattle.build.proofs.recording.too_long.Tie as tie
+
+returns : tie.Need-returns
+returns c = and-then _ refl (c .if1 .taken)
+
+returns-2 : tie.Need-returns-2
+returns-2 c = and-not _ refl (c .if1 .left)
+
+pub too-long-spec : {M : Type 1} → statement M
+too-long-spec = tie.close (tie.spec returns returns-2)

@@ -1,0 +1,4 @@
+pub mod Needs
+pub mod Building
+pub mod Finishing
+pub mod Coding

@@ -1,0 +1,49 @@
+-- The fields of a stored item, on each way through the code of fields. Assumes nothing.
+use Prim.Native.Nat.{ℕ, zero, suc, _+_, _-_, _≤_, _<_}
+use native.Mathlib.Omega.{arith}
+use mathlib.Core.Path.{_≡_, refl, sym, ap, _∙_}
+use mathlib.Core.Bool.{true, false, not}
+use mathlib.Core.List.{List, []}
+use lib.Dec.{ltb, eqb}
+use lib.ListN.{getD}
+use borrow.Author.Tests.{lt-ltb, le-ltb, eq-eqb, ne-eqb}
+use Rattle.encode.specs.declared.Kind.the-variants.{Blob}
+use Rattle.held.specs.Held.{held, endIn, startIn, fieldWrong}
+use Rattle.held.proofs.Bools.{or-first, or-then, or-none, and-then, and-not}
+
+pub start-none : (ends : List ℕ) (i : ℕ) → i ≡ 0 → 0 ≡ startIn ends i
+unfolding startIn
+start-none ends i q = ap (startIn ends) (sym q)
+
+pub start-some : (ends : List ℕ) (i : ℕ) → (i ≡ 0 → ⊥) → {x : ℕ} → x ≡ endIn ends (i - 1) → x ≡ startIn ends i
+unfolding startIn
+start-some ends zero h q = absurd (h refl)
+start-some ends (suc i) h q = let z : suc i - 1 ≡ i = omega arith in q ∙ ap (λ (j : ℕ). getD ends j 0) z
+
+module _ (n len : ℕ) (ends : List ℕ) (i : ℕ) {e s : ℕ} (p : e ≡ endIn ends i) (q : s ≡ startIn ends i) where
+  pub wrong-falls : e < s → true ≡ fieldWrong Blob n len (held [] ends []) i
+  unfolding fieldWrong
+  wrong-falls h = or-first _ (sym (or-first _ (sym (sym (lt-ltb e s h) ∙ ap (ltb e) q ∙ ap (λ (x : ℕ). ltb x (startIn ends i)) p))))
+
+  module _ (h : s ≤ e) where
+    rises : ltb (endIn ends i) (startIn ends i) ≡ false
+    rises = sym (ap (ltb e) q ∙ ap (λ (x : ℕ). ltb x (startIn ends i)) p) ∙ le-ltb e s h
+
+    pub wrong-passes : len < e → true ≡ fieldWrong Blob n len (held [] ends []) i
+    unfolding fieldWrong
+    wrong-passes g = or-first _ (sym (or-then rises (sym (lt-ltb len e g) ∙ ap (ltb len) p)))
+
+    module _ (g : e ≤ len) where
+      inside : ltb len (endIn ends i) ≡ false
+      inside = sym (ap (ltb len) p) ∙ le-ltb len e g
+
+      pub wrong-last : i + 1 ≡ n → not (eqb e len) ≡ fieldWrong Blob n len (held [] ends []) i
+      unfolding fieldWrong
+      wrong-last z =
+          or-then (or-none rises inside)
+          (ap (λ (x : ℕ). not (eqb x len)) p ∙ and-then {x = true} _ (sym (eq-eqb (suc i) n (omega (arith, z)))) refl)
+
+      pub wrong-not : (i + 1 ≡ n → ⊥) → false ≡ fieldWrong Blob n len (held [] ends []) i
+      unfolding fieldWrong
+      wrong-not z =
+          or-then (or-none rises inside) (and-not {x = false} _ (sym (ne-eqb (suc i) n (λ y. z (omega (arith, y))))) refl)

@@ -1,0 +1,6 @@
+pub mod Bools
+pub mod Ending
+pub mod Walking
+pub mod Alike
+pub mod Words
+pub mod There

@@ -1,0 +1,33 @@
+-- `held::fields::field_wrong` meets its contract: each arm is the law of its kind. Assumes nothing.
+use native.Mathlib.Omega.{arith}
+use borrow.Author.Needs.{needs}
+use Rattle.held.proofs.There.{fixed-wrong, char-fields, char-wrong, blob-fields, blob-wrong}
+use Rattle.held.proofs.fields.field_wrong.Statement.{statement}
+use Rattle.held.proofs.fields.field_wrong.Tie as tie
+
+shared-slice-read-result : tie.Need-shared-slice-read-result
+shared-slice-read-result c = let h = char-fields _ (c .before .before .kind .given .1) _ _ (c .before .before .before .before .before .before .pre .1) in omega (arith, c .before .before .before .before .before .before .pre .0)
+
+blob-wrong-requires : tie.Need-blob-wrong-requires
+blob-wrong-requires c κs = (c .before .before .before .before .pre .0, blob-fields (c .enum-told2 .given .1) _ _ (c .before .before .before .before .pre .1))
+
+returns : tie.Need-returns
+returns c = fixed-wrong _ (c .enum-told .given .1) _ _ _ _
+
+returns-2 : tie.Need-returns-2
+returns-2 c = char-wrong _ (c .before .before .kind .given .1) _ _ _ _
+
+returns-3 : tie.Need-returns-3
+returns-3 c = blob-wrong (c .before .enum-told2 .given .1) _ _ _ _ _ _ (c .blob-wrong .ensures)
+
+pub field-wrong-spec : {M : Type 1} → statement M
+field-wrong-spec =
+    tie.close
+    (tie.spec
+    (λ c. search needs) (λ c. search needs)
+    shared-slice-read-result
+    (λ c. search needs)
+    blob-wrong-requires
+    returns
+    returns-2
+    returns-3)

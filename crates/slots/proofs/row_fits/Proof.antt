@@ -1,0 +1,28 @@
+-- `slots::row_fits` meets its contract: each return is the law of a null or of the kind that was found. Assumes nothing.
+use borrow.Author.Needs.{needs}
+use borrow.Author.Tests.{not-true, not-false}
+use Rattle.slots.proofs.Items as laws
+use Rattle.slots.proofs.row_fits.Statement.{statement}
+use Rattle.slots.proofs.row_fits.Tie as tie
+
+returns : tie.Need-returns
+returns c = laws.fits-none _ _ _ _ (not-true _ (c .if1 .taken))
+
+returns-2 : tie.Need-returns-2
+returns-2 c = laws.fits-fixed _ _ _ _ _ (c .before .before .kind .given .1) (not-false _ (c .before .before .before .before .if1 .left)) (c .before .before .before .before .before .before .fits .value) (c .takes .ensures)
+
+returns-3 : tie.Need-returns-3
+returns-3 c = laws.fits-char _ _ _ _ _ (c .before .kind2 .given .1) (not-false _ (c .before .before .before .if1 .left))
+
+returns-4 : tie.Need-returns-4
+returns-4 c = laws.fits-blob _ _ _ _ (c .enum-told .given .1) (not-false _ (c .before .before .if1 .left))
+
+pub row-fits-spec : {M : Type 1} → statement M
+row-fits-spec =
+    tie.close
+    (tie.spec
+    returns
+    (λ c. search needs) (λ c κs. search needs) (λ c. search needs) (λ c. search needs) (λ c. search needs)
+    returns-2
+    returns-3
+    returns-4)
