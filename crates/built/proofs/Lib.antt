@@ -1,0 +1,17 @@
+pub mod Lists
+pub mod Same
+pub mod Runs
+pub mod Entries
+pub mod Growing
+pub mod Flags
+pub mod Next
+pub mod Measures
+pub mod Records
+pub mod Holding
+pub mod Finding
+pub mod Stepping
+pub mod Finishing
+pub mod Standing
+pub mod Verdict
+pub mod Built
+pub mod Refusing

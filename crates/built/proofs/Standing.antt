@@ -1,0 +1,143 @@
+-- A builder and its lent areas that stand as a list of appended rows left them: at creation, and after each append. Assumes nothing.
+use Prim.Native.Nat.{ℕ, _+_, _-_}
+use mathlib.Core.Bool.{true, false, cond, not}
+use mathlib.Core.List.{List, [], _∷_, _++_}
+use mathlib.Core.Path.{_≡_, refl}
+use Rattle.encode.specs.declared.Kind.{Kind}
+use Rattle.encode.specs.declared.Kind.the-variants.{Fixed, Char, Blob}
+use Rattle.plain.specs.Rows.{Row, fits}
+use Rattle.plain.specs.Plain.{joined, places, endsFrom, plainOf}
+use Rattle.nullable.specs.Nullable.{bitmapLength, presence, bitmapOf, nullableOf}
+use Rattle.rle.specs.RunLength.{runsOf, countsOf, runLengthOf}
+use Rattle.dict.specs.Dictionary.{entriesAfter, entriesOf, keyBlockOf, dictionaryOf}
+use Rattle.format.specs.declared.Encoding.{Encoding}
+use Rattle.format.specs.declared.Encoding.the-variants.{Plain, Nullable, RunLength, RunLengthNullable, Dictionary}
+use Rattle.format.specs.declared.Column.the-variants.{Of}
+use Rattle.format.specs.Blocks.{columnOf, blockOf}
+use Rattle.format.specs.Sizes.{runRows, keysOf, storedItems, storedEntries, withinLimits}
+use Rattle.build.specs.declared.Builder.{Builder}
+use Rattle.build.specs.Needs.{Areas, recordWrong}
+use Rattle.build.specs.Building.{empty, grown, appendOf, counted, appendedBy, appendedAs, appendedIn, appended}
+use Rattle.built.specs.Built.{Given, rowIn, storedRows, storedRuns, Enough}
+use Rattle.built.proofs.Runs.{lastRun}
+use Rattle.built.proofs.Next.{enough-before}
+use Rattle.built.proofs.Records.{Recorded, nextBy, recorded-next, past-limits, within-told, record-right, room-enough}
+use Rattle.built.proofs.Holding.{EndsHeld, LensHeld, Holds, writtenBy, holds-next}
+use Rattle.built.proofs.Stepping.{step-told}
+
+pub record Stands (k : Kind) (e : Encoding) (target : ℕ) (xs : List Row) (r : Builder) (a : Areas) : Type 0 where
+  pub column : columnOf (r .kind) (r .encoding) (r .width) ≡ Of k e
+  pub aim : r .target ≡ target
+  pub recorded : Recorded k e xs r
+  pub holds : Holds k e xs a
+  pub within : withinLimits k e xs ≡ true
+
+-- ---- at creation
+no-items : (e : Encoding) → storedRows e [] ≡ []
+unfolding storedRows runRows runsOf entriesOf entriesAfter
+no-items Plain = refl
+no-items Nullable = refl
+no-items RunLength = refl
+no-items RunLengthNullable = refl
+no-items Dictionary = refl
+
+no-runs : (e : Encoding) → storedRuns e [] ≡ []
+unfolding storedRuns runsOf keysOf
+no-runs Plain = refl
+no-runs Nullable = refl
+no-runs RunLength = refl
+no-runs RunLengthNullable = refl
+no-runs Dictionary = refl
+
+no-entries : (e : Encoding) → storedEntries e [] ≡ 0
+unfolding storedEntries entriesOf entriesAfter
+no-entries Plain = refl
+no-entries Nullable = refl
+no-entries RunLength = refl
+no-entries RunLengthNullable = refl
+no-entries Dictionary = refl
+
+none-held : (k : Kind) (es ls : List ℕ) → EndsHeld k [] es × LensHeld k [] ls
+unfolding endsFrom
+none-held (Fixed p) es ls = (tt, tt)
+none-held (Char w) es ls = (tt, refl)
+none-held Blob es ls = (refl, tt)
+
+no-bytes : (k : Kind) → plainOf k [] ≡ []
+unfolding plainOf joined endsFrom
+no-bytes (Fixed p) = refl
+no-bytes (Char w) = refl
+no-bytes Blob = refl
+
+none-within : (k : Kind) (e : Encoding) → withinLimits k e [] ≡ true
+unfolding withinLimits storedItems storedEntries blockOf nullableOf bitmapOf bitmapLength places runLengthOf runsOf dictionaryOf keyBlockOf keysOf entriesOf entriesAfter
+none-within k Plain = rw (no-bytes k)
+none-within k Nullable = rw (no-bytes k)
+none-within k RunLength = refl
+none-within k RunLengthNullable = refl
+none-within k Dictionary = rw (no-bytes k)
+
+module _ (kind encoding width target : ℕ) (k : Kind) (e : Encoding) where
+  none-recorded : Recorded k e [] (empty kind encoding width target)
+  unfolding lastRun countsOf joined presence
+  none-recorded = record {
+    rows = refl;
+    runs = rw (no-runs e);
+    entries = rw (no-entries e);
+    bytes = rw (no-items e);
+    last = rw (no-runs e);
+    null = λ u. rw (no-runs e);
+    counts = rw (no-runs e);
+  }
+
+  none-holds : (a : Areas) → Holds k e [] a
+  unfolding joined places
+  none-holds a = record {
+    items = rw (no-items e);
+    ends = rw (no-items e) (none-held k (a .ends) (a .lens) .0);
+    flags = λ u. rw (no-items e);
+    counts = rw (no-runs e);
+    keys = λ u. rw (no-runs e);
+    lens = rw (no-items e) (none-held k (a .ends) (a .lens) .1);
+    fit = rw (no-items e) tt;
+    keysFit = λ u. rw (no-runs e) tt;
+  }
+
+  pub stands-first : columnOf kind encoding width ≡ Of k e → (a : Areas) → Stands k e target [] (empty kind encoding width target) a
+  stands-first c a = record { column = c; aim = refl; recorded = none-recorded; holds = none-holds a; within = none-within k e }
+
+-- ---- one append
+module _ (k : Kind) (e : Encoding) (target : ℕ) (rows : List Row) (r : Builder) (a : Areas) (g : Stands k e target rows r a) where
+  pub not-wrong : recordWrong k e r ≡ false
+  not-wrong = record-right k e rows r (g .recorded) (g .holds .fit) (g .within)
+
+  module _ (x : Row) (room : Enough k e (rows ++ (x ∷ [])) a) where
+    pub append-told :
+        appendedAs k e r a x
+        ≡ cond (not (fits k x)) (appendOf 2 r a)
+        (cond (not (withinLimits k e (rows ++ (x ∷ [])))) (appendOf 3 r a)
+        (appendOf 0 (nextBy k e rows x r) (writtenBy k e rows x r a)))
+    unfolding appendedAs appendedBy counted
+    append-told =
+        rw (
+          not-wrong,
+          room-enough k e rows r a (g .recorded) (enough-before k e rows x a room),
+          step-told k e rows r a x (g .recorded) (g .holds),
+          past-limits k (rows ++ (x ∷ [])) (nextBy k e rows x r) e (recorded-next k e rows x r (g .recorded)),
+          room-enough k e (rows ++ (x ∷ [])) (nextBy k e rows x r) a (recorded-next k e rows x r (g .recorded)) room,
+        )
+
+    pub stands-next : fits k x ≡ true → withinLimits k e (rows ++ (x ∷ [])) ≡ true → Stands k e target (rows ++ (x ∷ [])) (nextBy k e rows x r) (writtenBy k e rows x r a)
+    unfolding grown
+    stands-next f w = record {
+      column = g .column;
+      aim = g .aim;
+      recorded = recorded-next k e rows x r (g .recorded);
+      holds = holds-next k e rows x r a (g .recorded) room (g .holds) f (within-told k e rows (g .within) .entries);
+      within = w;
+    }
+
+  -- of a row as it is given
+  pub given-told : (v : Given) → appended r a (v .present) (v .value) (v .text) ≡ appendedAs k e r a (rowIn k v)
+  unfolding appended appendedIn rowIn
+  given-told v = rw (g .column)
