@@ -1,0 +1,24 @@
+-- `capi::idz_append` meets its contract: that of the call below, for the row that the flag says. Assumes nothing.
+use mir.Facts.{toZ-ofZ}
+use borrow.Author.Needs.{needs}
+use Rattle.capi.proofs.building.idz_append.Statement.{statement}
+use Rattle.capi.proofs.building.idz_append.Tie as tie
+
+returns : tie.Need-returns
+returns c =
+    let d = c .before .before .before .before .before .before .before .before .before .before .before in
+    rw (← (d .before .before .before .before .before .before .before .is-present .ensures)) (rw (toZ-ofZ (d .before .before .before .before .before .before .before .before .before .before .before .before .before .before .fits .value)) at (d .append .ensures))
+
+pub idz-append-spec : {M : Type 1} → statement M
+idz-append-spec =
+    tie.close
+    (tie.spec
+    (λ c κs. search needs)
+    (λ c κs. search needs)
+    (λ c. search needs)
+    (λ c. search needs)
+    (λ c. search needs)
+    (λ c. search needs)
+    (λ c. search needs)
+    (λ c. search needs)
+    returns)

@@ -1,0 +1,123 @@
+// The calls that build blocks.
+use build::Appended;
+use build::Asked;
+use build::Builder;
+use build::Created;
+use build::Estimated;
+use build::Finished;
+ghost use mathlib.Core.Path.{_≡_};
+ghost use mathlib.Core.Bool.{not};
+ghost use lib.Dec.{eqb};
+ghost use Rattle.build.specs.Needs.{areas};
+ghost use Rattle.build.specs.Building.{created, appended};
+ghost use Rattle.build.specs.Finishing.{finished, estimated, asked};
+ghost use Rattle.capi.specs.Answers.{noBuilder, creationOf};
+
+// What creation answers: 0 and a builder, or a refusal and the record that every call refuses.
+#[repr(C)]
+pub struct Creation {
+    pub number: u8,
+    pub builder: Builder,
+}
+
+// The record beside a refused creation: no kind has this number.
+fn no_builder() -> Builder
+    ensures { λ r. ⌜ r ≡ noBuilder ⌝ }
+{
+    Builder {
+        kind: 255,
+        encoding: 0,
+        width: 0,
+        target: 0,
+        rows: 0,
+        runs: 0,
+        entries: 0,
+        bytes: 0,
+        last: 0,
+        null: 0,
+        counts: 0,
+    }
+}
+
+// A flag from C: 0 is null.
+fn is_present(flag: u8) -> bool
+    ensures { λ r. ⌜ r ≡ not (eqb flag 0) ⌝ }
+{
+    flag != 0
+}
+
+// A builder with nothing appended.
+#[no_mangle]
+pub extern "C" fn idz_create(kind: usize, encoding: usize, width: usize, target: usize) -> Creation
+    ensures { λ r. ⌜ r ≡ creationOf (created kind encoding width target) ⌝ }
+{
+    let answer = build::create(kind, encoding, width, target);
+    match answer {
+        Created::New(builder) => Creation { number: 0, builder },
+        Created::Refused(number) => Creation {
+            number,
+            builder: no_builder(),
+        },
+    }
+}
+
+// Appends one row: whether it is present, its integer for a fixed kind, its bytes for char and blob.
+#[no_mangle]
+pub extern "C" fn idz_append(
+    builder: Builder,
+    items: &mut [u8],
+    ends: &mut [u32],
+    flags: &mut [u8],
+    counts: &mut [u32],
+    keys: &mut [i32],
+    lens: &mut [u8],
+    present: u8,
+    value: i64,
+    item: &[u8],
+) -> Appended
+    ensures { λ r. ⌜ r ≡ appended builder (areas (now (items .entry)) (now (ends .entry)) (now (flags .entry)) (now (counts .entry)) (now (keys .entry)) (now (lens .entry))) (not (eqb present 0)) value (now (item .entry)) .answer ⌝ }
+    ensures { λ _. ⌜ now (items .exit) ≡ appended builder (areas (now (items .entry)) (now (ends .entry)) (now (flags .entry)) (now (counts .entry)) (now (keys .entry)) (now (lens .entry))) (not (eqb present 0)) value (now (item .entry)) .areas .items ⌝ }
+    ensures { λ _. ⌜ now (ends .exit) ≡ appended builder (areas (now (items .entry)) (now (ends .entry)) (now (flags .entry)) (now (counts .entry)) (now (keys .entry)) (now (lens .entry))) (not (eqb present 0)) value (now (item .entry)) .areas .ends ⌝ }
+    ensures { λ _. ⌜ now (flags .exit) ≡ appended builder (areas (now (items .entry)) (now (ends .entry)) (now (flags .entry)) (now (counts .entry)) (now (keys .entry)) (now (lens .entry))) (not (eqb present 0)) value (now (item .entry)) .areas .flags ⌝ }
+    ensures { λ _. ⌜ now (counts .exit) ≡ appended builder (areas (now (items .entry)) (now (ends .entry)) (now (flags .entry)) (now (counts .entry)) (now (keys .entry)) (now (lens .entry))) (not (eqb present 0)) value (now (item .entry)) .areas .counts ⌝ }
+    ensures { λ _. ⌜ now (keys .exit) ≡ appended builder (areas (now (items .entry)) (now (ends .entry)) (now (flags .entry)) (now (counts .entry)) (now (keys .entry)) (now (lens .entry))) (not (eqb present 0)) value (now (item .entry)) .areas .keys ⌝ }
+    ensures { λ _. ⌜ now (lens .exit) ≡ appended builder (areas (now (items .entry)) (now (ends .entry)) (now (flags .entry)) (now (counts .entry)) (now (keys .entry)) (now (lens .entry))) (not (eqb present 0)) value (now (item .entry)) .areas .lens ⌝ }
+{
+    let there = is_present(present);
+    builder.append(items, ends, flags, counts, keys, lens, there, value, item)
+}
+
+// Writes the block that the areas hold into the room.
+#[no_mangle]
+pub extern "C" fn idz_finish(
+    builder: Builder,
+    items: &[u8],
+    ends: &[u32],
+    flags: &[u8],
+    counts: &[u32],
+    keys: &[i32],
+    lens: &[u8],
+    out: &mut [u8],
+) -> Finished
+    ensures { λ r. ⌜ r ≡ finished builder (areas (now (items .entry)) (now (ends .entry)) (now (flags .entry)) (now (counts .entry)) (now (keys .entry)) (now (lens .entry))) (now (out .entry)) .answer ⌝ }
+    ensures { λ _. ⌜ now (out .exit) ≡ finished builder (areas (now (items .entry)) (now (ends .entry)) (now (flags .entry)) (now (counts .entry)) (now (keys .entry)) (now (lens .entry))) (now (out .entry)) .out ⌝ }
+{
+    builder.finish(items, ends, flags, counts, keys, lens, out)
+}
+
+// The estimated size of the block.
+#[no_mangle]
+pub extern "C" fn idz_estimate(builder: Builder) -> Estimated
+    ensures { λ r. ⌜ r ≡ estimated builder ⌝ }
+{
+    builder.estimate()
+}
+
+// Whether to finish before a next row: whether that row is present, and the length of its bytes.
+#[no_mangle]
+pub extern "C" fn idz_should_finish(builder: Builder, present: u8, len: usize) -> Asked
+    ensures { λ r. ⌜ r ≡ asked builder (not (eqb present 0)) len ⌝ }
+{
+    let there = is_present(present);
+    builder.should_finish(there, len)
+}

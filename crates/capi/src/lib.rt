@@ -1,0 +1,97 @@
+// The calls for C and Rust, by the names that include/idzulgar.h declares: numbers, slices and records of numbers go in and
+// come out, and each answer is the one of the crates below.
+mod building;
+
+use block::Given;
+use block::Left;
+use block::Opened;
+use block::Reader;
+use block::Skipped;
+ghost use mathlib.Core.Path.{_≡_};
+ghost use Rattle.block.specs.Reading.{opened, skipped, remaining, batched, areas};
+ghost use Rattle.capi.specs.Answers.{noReader, openingOf};
+
+// What opening answers: 0 and a reader, or a refusal and the record that every call refuses.
+#[repr(C)]
+pub struct Opening {
+    pub number: u8,
+    pub reader: Reader,
+}
+
+// The record beside a refused opening: no kind has this number, so that nobody reads a bad column as an empty one.
+fn no_reader() -> Reader
+    ensures { λ r. ⌜ r ≡ noReader ⌝ }
+{
+    Reader {
+        kind: 255,
+        encoding: 0,
+        width: 0,
+        rows: 0,
+        len: 0,
+        runs: 0,
+        counts: 0,
+        keys: 0,
+        entries: 0,
+        place: 0,
+        run: 0,
+        at: 0,
+        taken: 0,
+    }
+}
+
+// Opens a block of `rows` rows.
+#[no_mangle]
+pub extern "C" fn idz_open(
+    kind: usize,
+    encoding: usize,
+    width: usize,
+    rows: usize,
+    bytes: &[u8],
+) -> Opening
+    ensures { λ r. ⌜ r ≡ openingOf (opened kind encoding width rows (now (bytes .entry))) ⌝ }
+{
+    let answer = block::open(kind, encoding, width, rows, bytes);
+    match answer {
+        Opened::Open(reader) => Opening { number: 0, reader },
+        Opened::Refused(number) => Opening {
+            number,
+            reader: no_reader(),
+        },
+    }
+}
+
+// Reads up to `size` rows.
+#[no_mangle]
+pub extern "C" fn idz_batch(
+    reader: Reader,
+    block: &[u8],
+    size: usize,
+    values: &mut [i64],
+    flags: &mut [u8],
+    ends: &mut [u32],
+    bytes: &mut [u8],
+) -> Given
+    ensures { λ r. ⌜ r ≡ batched reader (now (block .entry)) size (areas (now (values .entry)) (now (flags .entry)) (now (ends .entry)) (now (bytes .entry))) .answer ⌝ }
+    ensures { λ _. ⌜ now (values .exit) ≡ batched reader (now (block .entry)) size (areas (now (values .entry)) (now (flags .entry)) (now (ends .entry)) (now (bytes .entry))) .areas .values ⌝ }
+    ensures { λ _. ⌜ now (flags .exit) ≡ batched reader (now (block .entry)) size (areas (now (values .entry)) (now (flags .entry)) (now (ends .entry)) (now (bytes .entry))) .areas .flags ⌝ }
+    ensures { λ _. ⌜ now (ends .exit) ≡ batched reader (now (block .entry)) size (areas (now (values .entry)) (now (flags .entry)) (now (ends .entry)) (now (bytes .entry))) .areas .ends ⌝ }
+    ensures { λ _. ⌜ now (bytes .exit) ≡ batched reader (now (block .entry)) size (areas (now (values .entry)) (now (flags .entry)) (now (ends .entry)) (now (bytes .entry))) .areas .bytes ⌝ }
+{
+    reader.batch(block, size, values, flags, ends, bytes)
+}
+
+// Passes over `rows` rows.
+#[no_mangle]
+pub extern "C" fn idz_skip(reader: Reader, block: &[u8], rows: usize) -> Skipped
+    ensures { λ r. ⌜ r ≡ skipped reader (now (block .entry)) rows ⌝ }
+{
+    reader.skip(block, rows)
+}
+
+// How many rows are left.
+#[no_mangle]
+pub extern "C" fn idz_remaining(reader: Reader) -> Left
+    ensures { λ r. ⌜ r ≡ remaining reader ⌝ }
+{
+    reader.remaining()
+}

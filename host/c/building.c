@@ -1,0 +1,84 @@
+/* Builds, finishes and refuses blocks from C. Prints a line for each thing that isn't as expected, and how many were. */
+#include "idzulgar.h"
+
+#include <stdio.h>
+#include <string.h>
+
+static int passed, failed;
+
+static void expect(int holds, const char *what) {
+    if (holds) {
+        passed++;
+    } else {
+        failed++;
+        printf("not so: %s\n", what);
+    }
+}
+
+/* The six areas, large enough for some rows. */
+static uint8_t items[64], flags[2], lens[8], out[64];
+static uint32_t ends[8], counts[8];
+static int32_t keys[8];
+
+static idz_appended append(idz_builder builder, int present, int64_t value, const char *item, size_t items_len) {
+    return idz_append(builder, items, items_len, ends, 8, flags, 2, counts, 8, keys, 8, lens, 8, (uint8_t)present, value,
+                      (const uint8_t *)item, strlen(item));
+}
+
+static idz_finished finish(idz_builder builder, size_t room) {
+    return idz_finish(builder, items, 64, ends, 8, flags, 2, counts, 8, keys, 8, lens, 8, out, room);
+}
+
+/* Sample A: i32, run-length, 7 7 7 -1. */
+static void run_length(void) {
+    static const uint8_t block[] = {2, 0, 0, 0, 2, 0, 0, 0, 3, 1, 7, 0, 0, 0, 255, 255, 255, 255};
+    static const int64_t rows[] = {7, 7, 7, -1};
+    idz_creation creation = idz_create(IDZ_I32, IDZ_RUN_LENGTH, 0, 8);
+    expect(creation.number == IDZ_DONE, "a builder of i32");
+    idz_builder builder = creation.builder;
+    for (int i = 0; i < 4; i++) {
+        idz_appended appended = append(builder, 1, rows[i], "", 64);
+        expect(appended.number == IDZ_DONE, "an append");
+        builder = appended.builder;
+    }
+    idz_estimated estimated = idz_estimate(builder);
+    expect(estimated.number == IDZ_DONE && estimated.size == 16, "estimate 16");
+    idz_asked asked = idz_should_finish(builder, 1, 0);
+    expect(asked.number == IDZ_DONE && asked.full, "8 bytes and 4 more are above the target");
+    idz_finished finished = finish(builder, 64);
+    expect(finished.number == IDZ_DONE && finished.len == sizeof block && memcmp(out, block, sizeof block) == 0, "sample A");
+    expect(finish(builder, sizeof block - 1).number == IDZ_ROOM, "a byte of room too few is 4");
+}
+
+/* Sample B: blob, dictionary, "ab" null "ab" "c". */
+static void dictionary(void) {
+    static const char *rows[] = {"ab", NULL, "ab", "c"};
+    idz_builder builder = idz_create(IDZ_BLOB, IDZ_DICTIONARY, 0, 100).builder;
+    for (int i = 0; i < 4; i++) {
+        builder = append(builder, rows[i] != NULL, 0, rows[i] != NULL ? rows[i] : "", 64).builder;
+    }
+    idz_finished finished = finish(builder, 64);
+    expect(finished.number == IDZ_DONE && finished.len == 51 && memcmp(out + 48, "abc", 3) == 0, "sample B has 51 bytes");
+    idz_opening opening = idz_open(IDZ_BLOB, IDZ_DICTIONARY, 0, 4, out, finished.len);
+    expect(opening.number == IDZ_DONE && opening.reader.entries == 2, "and it opens");
+}
+
+static void refused(void) {
+    idz_creation creation = idz_create(IDZ_CHAR, IDZ_PLAIN, 0, 0);
+    expect(creation.number == IDZ_COLUMN, "char of 0 is 1");
+    expect(idz_estimate(creation.builder).number == IDZ_DISAGREE, "and its record is refused as 9");
+    idz_builder builder = idz_create(IDZ_CHAR, IDZ_PLAIN, 2, 0).builder;
+    expect(append(builder, 1, 0, "abc", 64).number == IDZ_ITEM, "three bytes in char 2 are 2");
+    idz_appended appended = append(builder, 1, 0, "ab", 1);
+    expect(appended.number == IDZ_ROOM && memcmp(&appended.builder, &builder, sizeof builder) == 0, "a byte of room for two is 4");
+    builder.bytes = 1;
+    expect(append(builder, 1, 0, "ab", 64).number == IDZ_DISAGREE, "a record that contradicts itself is 9");
+}
+
+int main(void) {
+    run_length();
+    dictionary();
+    refused();
+    printf("%d passed, %d failed\n", passed, failed);
+    return failed > 0;
+}

@@ -1,0 +1,331 @@
+//! The calls of the library as safe functions on slices and records: the one file with `unsafe`.
+//!
+//! Each takes any record and any bytes and gives the library's answer: this is the layer to use where the block and the record
+//! are kept apart, or come from elsewhere. [`crate::Reader`] and [`crate::Builder`] keep them together.
+//!
+//! # Why the calls are sound
+//!
+//! The library asks two things of its caller that it can't test: each pointer goes with the number of items it points to, and
+//! what it writes overlaps nothing else that it was lent. A slice is just such a pointer with its number of items, and two
+//! `&mut` slices never overlap each other or a `&` slice. It keeps no pointer, allocates nothing and has no state of its own. The
+//! records below have the layout of include/idzulgar.h, all of plain numbers, so any bits in them are a value.
+
+/// A reader's record: what opening was given and found at the block's head, and where reading stands. Any numbers can stand
+/// here; a record that contradicts itself is refused as 9.
+#[repr(C)]
+#[derive(Clone, Copy, Debug, PartialEq, Eq, Hash)]
+#[allow(missing_docs)]
+pub struct ReaderRecord {
+    pub kind: usize,
+    pub encoding: usize,
+    pub width: usize,
+    pub rows: usize,
+    pub len: usize,
+    pub runs: usize,
+    pub counts: usize,
+    pub keys: usize,
+    pub entries: usize,
+    pub place: usize,
+    pub run: usize,
+    pub at: usize,
+    pub taken: usize,
+}
+
+/// What opening answers. Beside a refusal stands a record that every call refuses as 9.
+#[repr(C)]
+#[derive(Clone, Copy, Debug, PartialEq, Eq)]
+#[allow(missing_docs)]
+pub struct Opening {
+    pub number: u8,
+    pub reader: ReaderRecord,
+}
+
+/// What a batch answers: the rows given and, for char and blob, the bytes written.
+#[repr(C)]
+#[derive(Clone, Copy, Debug, PartialEq, Eq)]
+#[allow(missing_docs)]
+pub struct Given {
+    pub number: u8,
+    pub rows: usize,
+    pub bytes: usize,
+    pub reader: ReaderRecord,
+}
+
+/// What a skip answers.
+#[repr(C)]
+#[derive(Clone, Copy, Debug, PartialEq, Eq)]
+#[allow(missing_docs)]
+pub struct Skipped {
+    pub number: u8,
+    pub reader: ReaderRecord,
+}
+
+/// What asking for the remaining rows answers.
+#[repr(C)]
+#[derive(Clone, Copy, Debug, PartialEq, Eq)]
+#[allow(missing_docs)]
+pub struct Left {
+    pub number: u8,
+    pub rows: usize,
+}
+
+/// A builder's record: what creation was given, and what was appended so far. Any numbers can stand here; a record that
+/// contradicts itself or its areas is refused as 9.
+#[repr(C)]
+#[derive(Clone, Copy, Debug, PartialEq, Eq, Hash)]
+#[allow(missing_docs)]
+pub struct BuilderRecord {
+    pub kind: usize,
+    pub encoding: usize,
+    pub width: usize,
+    pub target: usize,
+    pub rows: usize,
+    pub runs: usize,
+    pub entries: usize,
+    pub bytes: usize,
+    pub last: usize,
+    pub null: usize,
+    pub counts: usize,
+}
+
+/// What creation answers. Beside a refusal stands a record that every call refuses as 9.
+#[repr(C)]
+#[derive(Clone, Copy, Debug, PartialEq, Eq)]
+#[allow(missing_docs)]
+pub struct Creation {
+    pub number: u8,
+    pub builder: BuilderRecord,
+}
+
+/// What an append answers.
+#[repr(C)]
+#[derive(Clone, Copy, Debug, PartialEq, Eq)]
+#[allow(missing_docs)]
+pub struct Appended {
+    pub number: u8,
+    pub builder: BuilderRecord,
+}
+
+/// What finishing answers: the bytes written.
+#[repr(C)]
+#[derive(Clone, Copy, Debug, PartialEq, Eq)]
+#[allow(missing_docs)]
+pub struct Finished {
+    pub number: u8,
+    pub len: usize,
+}
+
+/// What asking for the estimated size answers.
+#[repr(C)]
+#[derive(Clone, Copy, Debug, PartialEq, Eq)]
+#[allow(missing_docs)]
+pub struct Estimated {
+    pub number: u8,
+    pub size: usize,
+}
+
+/// What asking whether to finish answers.
+#[repr(C)]
+#[derive(Clone, Copy, Debug, PartialEq, Eq)]
+#[allow(missing_docs)]
+pub struct Asked {
+    pub number: u8,
+    pub full: bool,
+}
+
+/// The six areas of a builder: items (fixed and char items at their width, blob data), the blob items' ends, flags (a bit an
+/// item), the runs' counts, the key runs' keys, the char items' lengths.
+#[derive(Debug)]
+#[allow(missing_docs)]
+pub struct Areas<'a> {
+    pub items: &'a mut [u8],
+    pub ends: &'a mut [u32],
+    pub flags: &'a mut [u8],
+    pub counts: &'a mut [u32],
+    pub keys: &'a mut [i32],
+    pub lens: &'a mut [u8],
+}
+
+extern "C" {
+    fn idz_open(kind: usize, encoding: usize, width: usize, rows: usize, block: *const u8, block_len: usize) -> Opening;
+    fn idz_batch(
+        reader: ReaderRecord,
+        block: *const u8,
+        block_len: usize,
+        size: usize,
+        values: *mut i64,
+        values_len: usize,
+        flags: *mut u8,
+        flags_len: usize,
+        ends: *mut u32,
+        ends_len: usize,
+        bytes: *mut u8,
+        bytes_len: usize,
+    ) -> Given;
+    fn idz_skip(reader: ReaderRecord, block: *const u8, block_len: usize, rows: usize) -> Skipped;
+    fn idz_remaining(reader: ReaderRecord) -> Left;
+    fn idz_create(kind: usize, encoding: usize, width: usize, target: usize) -> Creation;
+    fn idz_append(
+        builder: BuilderRecord,
+        items: *mut u8,
+        items_len: usize,
+        ends: *mut u32,
+        ends_len: usize,
+        flags: *mut u8,
+        flags_len: usize,
+        counts: *mut u32,
+        counts_len: usize,
+        keys: *mut i32,
+        keys_len: usize,
+        lens: *mut u8,
+        lens_len: usize,
+        present: u8,
+        value: i64,
+        item: *const u8,
+        item_len: usize,
+    ) -> Appended;
+    fn idz_finish(
+        builder: BuilderRecord,
+        items: *const u8,
+        items_len: usize,
+        ends: *const u32,
+        ends_len: usize,
+        flags: *const u8,
+        flags_len: usize,
+        counts: *const u32,
+        counts_len: usize,
+        keys: *const i32,
+        keys_len: usize,
+        lens: *const u8,
+        lens_len: usize,
+        out: *mut u8,
+        out_len: usize,
+    ) -> Finished;
+    fn idz_estimate(builder: BuilderRecord) -> Estimated;
+    fn idz_should_finish(builder: BuilderRecord, present: u8, len: usize) -> Asked;
+}
+
+/// Opens a block of `rows` rows.
+pub fn open(kind: usize, encoding: usize, width: usize, rows: usize, block: &[u8]) -> Opening {
+    // SAFETY: see the head of this file.
+    unsafe { idz_open(kind, encoding, width, rows, block.as_ptr(), block.len()) }
+}
+
+/// Reads up to `size` rows into the lent areas.
+pub fn batch(
+    reader: ReaderRecord,
+    block: &[u8],
+    size: usize,
+    values: &mut [i64],
+    flags: &mut [u8],
+    ends: &mut [u32],
+    bytes: &mut [u8],
+) -> Given {
+    // SAFETY: see the head of this file.
+    unsafe {
+        idz_batch(
+            reader,
+            block.as_ptr(),
+            block.len(),
+            size,
+            values.as_mut_ptr(),
+            values.len(),
+            flags.as_mut_ptr(),
+            flags.len(),
+            ends.as_mut_ptr(),
+            ends.len(),
+            bytes.as_mut_ptr(),
+            bytes.len(),
+        )
+    }
+}
+
+/// Passes over rows.
+pub fn skip(reader: ReaderRecord, block: &[u8], rows: usize) -> Skipped {
+    // SAFETY: see the head of this file.
+    unsafe { idz_skip(reader, block.as_ptr(), block.len(), rows) }
+}
+
+/// How many rows are left, from the record alone.
+pub fn remaining(reader: ReaderRecord) -> Left {
+    // SAFETY: see the head of this file.
+    unsafe { idz_remaining(reader) }
+}
+
+/// A builder of a column, with nothing appended.
+pub fn create(kind: usize, encoding: usize, width: usize, target: usize) -> Creation {
+    // SAFETY: see the head of this file.
+    unsafe { idz_create(kind, encoding, width, target) }
+}
+
+/// Appends one row: whether it is present, its integer for a fixed kind, its bytes for char and blob.
+pub fn append(builder: BuilderRecord, areas: Areas<'_>, present: bool, value: i64, item: &[u8]) -> Appended {
+    // SAFETY: see the head of this file.
+    unsafe {
+        idz_append(
+            builder,
+            areas.items.as_mut_ptr(),
+            areas.items.len(),
+            areas.ends.as_mut_ptr(),
+            areas.ends.len(),
+            areas.flags.as_mut_ptr(),
+            areas.flags.len(),
+            areas.counts.as_mut_ptr(),
+            areas.counts.len(),
+            areas.keys.as_mut_ptr(),
+            areas.keys.len(),
+            areas.lens.as_mut_ptr(),
+            areas.lens.len(),
+            u8::from(present),
+            value,
+            item.as_ptr(),
+            item.len(),
+        )
+    }
+}
+
+/// Writes the block that the areas hold into the room.
+#[allow(clippy::too_many_arguments)]
+pub fn finish(
+    builder: BuilderRecord,
+    items: &[u8],
+    ends: &[u32],
+    flags: &[u8],
+    counts: &[u32],
+    keys: &[i32],
+    lens: &[u8],
+    out: &mut [u8],
+) -> Finished {
+    // SAFETY: see the head of this file.
+    unsafe {
+        idz_finish(
+            builder,
+            items.as_ptr(),
+            items.len(),
+            ends.as_ptr(),
+            ends.len(),
+            flags.as_ptr(),
+            flags.len(),
+            counts.as_ptr(),
+            counts.len(),
+            keys.as_ptr(),
+            keys.len(),
+            lens.as_ptr(),
+            lens.len(),
+            out.as_mut_ptr(),
+            out.len(),
+        )
+    }
+}
+
+/// The estimated size, from the record alone.
+pub fn estimate(builder: BuilderRecord) -> Estimated {
+    // SAFETY: see the head of this file.
+    unsafe { idz_estimate(builder) }
+}
+
+/// Whether to finish before a next row: whether that row is present, and the length of its bytes.
+pub fn should_finish(builder: BuilderRecord, present: bool, len: usize) -> Asked {
+    // SAFETY: see the head of this file.
+    unsafe { idz_should_finish(builder, u8::from(present), len) }
+}

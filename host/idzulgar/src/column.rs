@@ -1,0 +1,126 @@
+//! Kinds, encodings, and the fifty pairs of them.
+use crate::Refusal;
+
+/// What a column's rows are.
+#[derive(Clone, Copy, Debug, PartialEq, Eq, Hash)]
+pub enum Kind {
+    /// 0 or 1; any nonzero stored byte reads as 1.
+    Bool,
+    /// 16 bits.
+    I16,
+    /// 32 bits.
+    I32,
+    /// 64 bits.
+    I64,
+    /// Days, 32 bits.
+    Date,
+    /// 64 bits.
+    Timestamp,
+    /// 64 bits.
+    TimestampTz,
+    /// Months and days, 32 bits each, as one integer: see [`Kind::interval`].
+    Interval,
+    /// Bytes of at most this width, padded with NULs; read up to the first NUL. The width is 1 to 255: width 0 is refused when
+    /// the column is used.
+    Char(u8),
+    /// Bytes.
+    Blob,
+}
+
+impl Kind {
+    /// The months and days of an Interval's integer.
+    ///
+    /// ```
+    /// assert_eq!(idzulgar::Kind::interval((14 << 32) + 0xFFFF_FFFD), (14, -3));
+    /// ```
+    pub fn interval(value: i64) -> (i32, i32) {
+        ((value >> 32) as i32, value as i32)
+    }
+
+    /// Whether rows are bytes (char and blob) rather than one integer each.
+    pub fn is_bytes(self) -> bool {
+        matches!(self, Kind::Char(_) | Kind::Blob)
+    }
+}
+
+/// How a block holds its rows.
+#[derive(Clone, Copy, Debug, PartialEq, Eq, Hash)]
+pub enum Encoding {
+    /// Items one after another. A null is stored as the default.
+    Plain,
+    /// A plain block and a bitmap of presence.
+    Nullable,
+    /// Runs of equal rows over a plain block.
+    RunLength,
+    /// Runs of equal rows over a nullable block.
+    RunLengthNullable,
+    /// Each different row once, and runs of keys.
+    Dictionary,
+}
+
+/// A kind and an encoding.
+#[derive(Clone, Copy, Debug, PartialEq, Eq, Hash)]
+pub struct Column {
+    /// What the rows are.
+    pub kind: Kind,
+    /// How the block holds them.
+    pub encoding: Encoding,
+}
+
+impl Column {
+    /// A kind in an encoding.
+    pub fn new(kind: Kind, encoding: Encoding) -> Self {
+        Column { kind, encoding }
+    }
+
+    /// The column of a kind's, an encoding's and a width's number, as they stand in a block's metadata; the width is 0 for every
+    /// kind but char.
+    ///
+    /// ```
+    /// use idzulgar::{Column, Encoding, Kind, Refusal};
+    /// assert_eq!(Column::numbered(8, 4, 16), Ok(Column::new(Kind::Char(16), Encoding::Dictionary)));
+    /// assert_eq!(Column::numbered(8, 4, 256), Err(Refusal::Column));
+    /// assert_eq!(Column::numbered(3, 0, 8), Err(Refusal::Column));
+    /// ```
+    pub fn numbered(kind: u64, encoding: u64, width: u64) -> Result<Self, Refusal> {
+        let kind = match (kind, width) {
+            (0, 0) => Kind::Bool,
+            (1, 0) => Kind::I16,
+            (2, 0) => Kind::I32,
+            (3, 0) => Kind::I64,
+            (4, 0) => Kind::Date,
+            (5, 0) => Kind::Timestamp,
+            (6, 0) => Kind::TimestampTz,
+            (7, 0) => Kind::Interval,
+            (8, 1..=255) => Kind::Char(width as u8),
+            (9, 0) => Kind::Blob,
+            _ => return Err(Refusal::Column),
+        };
+        let encoding = match encoding {
+            0 => Encoding::Plain,
+            1 => Encoding::Nullable,
+            2 => Encoding::RunLength,
+            3 => Encoding::RunLengthNullable,
+            4 => Encoding::Dictionary,
+            _ => return Err(Refusal::Column),
+        };
+        Ok(Column { kind, encoding })
+    }
+
+    /// The numbers of the kind, the encoding and the width.
+    pub fn numbers(self) -> (usize, usize, usize) {
+        let (kind, width) = match self.kind {
+            Kind::Bool => (0, 0),
+            Kind::I16 => (1, 0),
+            Kind::I32 => (2, 0),
+            Kind::I64 => (3, 0),
+            Kind::Date => (4, 0),
+            Kind::Timestamp => (5, 0),
+            Kind::TimestampTz => (6, 0),
+            Kind::Interval => (7, 0),
+            Kind::Char(width) => (8, usize::from(width)),
+            Kind::Blob => (9, 0),
+        };
+        (kind, self.encoding as usize, width)
+    }
+}

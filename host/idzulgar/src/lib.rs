@@ -1,0 +1,43 @@
+//! Column blocks of risinglight (plain, nullable, run-length, dictionary; ten kinds), built and read by proved code.
+//!
+//! The work is done by a static library whose every answer is proved: a row, or a refusal with its number. This crate adds what a
+//! Rust service expects around it: a [`Builder`] that keeps its memory, a [`Reader`] that keeps its block, a [`Refusal`] that says
+//! what a number means, rows by batch or by iterator. No function here panics, whatever the block holds, and memory grows only as the caller asks.
+//!
+//! ```
+//! use idzulgar::{Column, Encoding, Kind, Reader, Refusal, Value};
+//!
+//! // i32, run-length: 7 7 7 -1
+//! let column = Column::new(Kind::I32, Encoding::RunLength);
+//! let block = [2, 0, 0, 0, 2, 0, 0, 0, 3, 1, 7, 0, 0, 0, 255, 255, 255, 255];
+//!
+//! let mut reader = Reader::open(column, 4, &block[..])?;
+//! reader.skip(2)?;
+//! assert_eq!(reader.remaining()?, 2);
+//! let rows: Result<Vec<Value>, Refusal> = reader.rows().collect();
+//! assert_eq!(rows?, [Value::Int(7), Value::Int(-1)]);
+//!
+//! // one byte is missing
+//! assert_eq!(Reader::open(column, 4, &block[..17]).unwrap_err(), Refusal::Length);
+//! # Ok::<(), Refusal>(())
+//! ```
+//!
+//! A block may be borrowed or owned: `&[u8]`, `Vec<u8>`, `Arc<[u8]>` and all else that is `AsRef<[u8]>`. Should it give other
+//! bytes later on, the calls answer that as [`Refusal::Disagree`] or from the bytes that are there, never from elsewhere.
+#![deny(unsafe_code)]
+#![warn(missing_docs)]
+
+#[allow(unsafe_code)]
+pub mod calls;
+
+mod batch;
+mod builder;
+mod column;
+mod reader;
+mod refusal;
+
+pub use batch::{Batch, Row, Value};
+pub use builder::Builder;
+pub use column::{Column, Encoding, Kind};
+pub use reader::{Reader, Rows};
+pub use refusal::Refusal;

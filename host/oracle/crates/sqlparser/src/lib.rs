@@ -1,0 +1,35 @@
+//! Stands in for sqlparser: the names that date.rs mentions. No block file uses them.
+pub mod ast {
+    #[derive(Debug, Clone, PartialEq, Eq, PartialOrd, Ord, Hash)]
+    pub enum DateTimeField {
+        Year,
+        Month,
+        Week(Option<()>),
+        Day,
+        Date,
+        Hour,
+        Minute,
+        Second,
+        Century,
+        Decade,
+        Dow,
+        Doy,
+        Epoch,
+        Isodow,
+        Isoyear,
+        Julian,
+        Microsecond,
+        Microseconds,
+        Millenium,
+        Millennium,
+        Millisecond,
+        Milliseconds,
+        Nanosecond,
+        Nanoseconds,
+        Quarter,
+        Timezone,
+        TimezoneHour,
+        TimezoneMinute,
+        NoDateTime,
+    }
+}

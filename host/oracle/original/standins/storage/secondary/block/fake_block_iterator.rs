@@ -1,0 +1,1 @@
+// Stands in for fake_block_iterator.rs, which document 01 leaves out: block.rs names the module.

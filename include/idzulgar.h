@@ -1,0 +1,163 @@
+/* Column blocks of risinglight, built and read by proved code. Link target/staticlib/libcapi.a, which `rt staticlib capi` makes.
+ *
+ * Every call takes any numbers, records and bytes, and answers with a number below; 0 is done. A refusal hands back the record that
+ * it was given (an opening: a record that every call refuses as 9), counts of 0, and writes nothing.
+ *
+ * What no call can test, and the caller sees to: a pointer that goes with a length points to that many items, is aligned for them
+ * and isn't NULL (with length 0 it may point anywhere else); memory that a call writes overlaps nothing else that the call is lent.
+ * Nothing is kept between calls but the record, and nothing is allocated, so calls on several threads don't touch each other.
+ *
+ * Sizes, counts and record fields are 64 bits wide: the library is for x86-64.
+ */
+#ifndef IDZULGAR_H
+#define IDZULGAR_H
+
+#include <stdbool.h>
+#include <stddef.h>
+#include <stdint.h>
+
+#ifdef __cplusplus
+extern "C" {
+#endif
+
+/* What comes back. */
+enum {
+    IDZ_DONE = 0,
+    IDZ_COLUMN = 1,      /* kind, encoding or width is not one of the fifty pairs */
+    IDZ_ITEM = 2,        /* an appended item doesn't fit its kind (building) */
+    IDZ_LIMIT = 3,       /* a limit is passed: rows 281,474,976,710,655; stored items or runs 1,048,576; entries 65,536;
+                            block 16,777,216 bytes */
+    IDZ_ROOM = 4,        /* lent room is too short for the whole answer */
+    IDZ_NO_ROWS = 6,     /* a batch of 0 rows */
+    IDZ_TOO_FAR = 7,     /* a skip above the rows remaining */
+    IDZ_DISAGREE = 9,    /* the record and the lent memory disagree: another length, a record that contradicts itself, or a field
+                            that changed since opening */
+    IDZ_CUT = 10,        /* the block is cut */
+    IDZ_LENGTH = 11,     /* a length is wrong */
+    IDZ_VARINT = 12,     /* a run count is cut or too large */
+    IDZ_COUNTS = 13,     /* a run count is 0, or the counts don't fill their section */
+    IDZ_ENDS = 14,       /* a blob end falls or passes the data */
+    IDZ_KEY = 15,        /* a dictionary key names no entry */
+    IDZ_SUM = 16         /* the run counts don't add up to the rows */
+};
+
+/* Kinds. Width is 1 to 255 for char and 0 for every other kind. */
+enum {
+    IDZ_BOOL = 0,
+    IDZ_I16 = 1,
+    IDZ_I32 = 2,
+    IDZ_I64 = 3,
+    IDZ_DATE = 4,
+    IDZ_TIMESTAMP = 5,
+    IDZ_TIMESTAMP_TZ = 6,
+    IDZ_INTERVAL = 7, /* one i64: months times 2^32 plus days modulo 2^32 */
+    IDZ_CHAR = 8,
+    IDZ_BLOB = 9
+};
+
+/* Encodings. */
+enum { IDZ_PLAIN = 0, IDZ_NULLABLE = 1, IDZ_RUN_LENGTH = 2, IDZ_RUN_LENGTH_NULLABLE = 3, IDZ_DICTIONARY = 4 };
+
+/* A reader: what opening was given and found at the block's head, and where reading stands. Copy it as you like: a copy goes on from
+ * where the original stood. */
+typedef struct {
+    size_t kind, encoding, width, rows, len, runs, counts, keys, entries;
+    size_t place, run, at, taken;
+} idz_reader;
+
+typedef struct {
+    uint8_t number;
+    idz_reader reader;
+} idz_opening;
+
+typedef struct {
+    uint8_t number;
+    size_t rows;  /* rows given */
+    size_t bytes; /* bytes written, for char and blob */
+    idz_reader reader;
+} idz_given;
+
+typedef struct {
+    uint8_t number;
+    idz_reader reader;
+} idz_skipped;
+
+typedef struct {
+    uint8_t number;
+    size_t rows;
+} idz_left;
+
+/* A builder: what creation was given, and what was appended so far. Between calls its rows lie in six areas, which the caller lends to
+ * each call with what they held: items (fixed and char items at their width, blob data), the blob items' ends, flags (a bit an
+ * item), the runs' counts, the key runs' keys, the char items' lengths. An area without a need may have length 0. */
+typedef struct {
+    size_t kind, encoding, width, target, rows, runs, entries, bytes, last, null, counts;
+} idz_builder;
+
+typedef struct {
+    uint8_t number;
+    idz_builder builder;
+} idz_creation;
+
+typedef struct {
+    uint8_t number;
+    idz_builder builder;
+} idz_appended;
+
+typedef struct {
+    uint8_t number;
+    size_t len; /* bytes written */
+} idz_finished;
+
+typedef struct {
+    uint8_t number;
+    size_t size;
+} idz_estimated;
+
+typedef struct {
+    uint8_t number;
+    bool full;
+} idz_asked;
+
+/* Opens a block of `rows` rows: 0 exactly for a sound block, else 1, 3 or 10 to 16. The block isn't kept: lend it to each call. */
+idz_opening idz_open(size_t kind, size_t encoding, size_t width, size_t rows, const uint8_t *block, size_t block_len);
+
+/* Gives min(size, rows remaining) rows; at the end that is 0 rows. Fixed kinds write one i64 a row to `values`; char and blob write
+ * their bytes to `bytes`, one after another, and to `ends` where each row's bytes end. `flags` gets 1 a row, 0 for a null, whose
+ * value is 0 or no bytes. Areas that the kind doesn't use may have length 0. Refuses 6, 9, 4 in this order. */
+idz_given idz_batch(idz_reader reader, const uint8_t *block, size_t block_len, size_t size, int64_t *values, size_t values_len,
+                    uint8_t *flags, size_t flags_len, uint32_t *ends, size_t ends_len, uint8_t *bytes, size_t bytes_len);
+
+/* Passes over rows. Refuses 9, 7. A skip of 0 rows is done anywhere. */
+idz_skipped idz_skip(idz_reader reader, const uint8_t *block, size_t block_len, size_t rows);
+
+/* The rows that are left, from the record alone. Refuses 9. */
+idz_left idz_remaining(idz_reader reader);
+
+/* A builder of a column with nothing appended: 0 or 1. The target is what idz_should_finish holds blocks to. */
+idz_creation idz_create(size_t kind, size_t encoding, size_t width, size_t target);
+
+/* Appends one row: `present` is 0 for a null; a fixed kind takes `value`, char and blob take `item`. Needs, this row counted in: the item
+ * bytes stored; a slot of `ends` a blob item; a byte of `flags` per eight items (encodings 1 and 3); a slot of `counts` a run; a
+ * slot of `keys` a key run; a byte of `lens` a char item. Refuses 9, 2, 3, 4 in this order; 4 exactly when an area is below its
+ * need. */
+idz_appended idz_append(idz_builder builder, uint8_t *items, size_t items_len, uint32_t *ends, size_t ends_len, uint8_t *flags,
+                        size_t flags_len, uint32_t *counts, size_t counts_len, int32_t *keys, size_t keys_len, uint8_t *lens,
+                        size_t lens_len, uint8_t present, int64_t value, const uint8_t *item, size_t item_len);
+
+/* Writes the block that the areas hold to `out`, and answers its length. Refuses 9, 4. It can be called again, and append can go on. */
+idz_finished idz_finish(idz_builder builder, const uint8_t *items, size_t items_len, const uint32_t *ends, size_t ends_len,
+                        const uint8_t *flags, size_t flags_len, const uint32_t *counts, size_t counts_len, const int32_t *keys,
+                        size_t keys_len, const uint8_t *lens, size_t lens_len, uint8_t *out, size_t out_len);
+
+/* The estimated size of the block, from the record alone. Refuses 9. */
+idz_estimated idz_estimate(idz_builder builder);
+
+/* Whether to finish before a next row, from the record alone: whether that row is present, and the length of its bytes. Refuses 9. */
+idz_asked idz_should_finish(idz_builder builder, uint8_t present, size_t len);
+
+#ifdef __cplusplus
+}
+#endif
+
+#endif
