@@ -1,18 +1,14 @@
 -- Where the bytes of an item lie, for each kind that a match found, and what rule 14 of one item says. Assumes nothing.
-use mathlib.Core.Path.{_≡_, refl, sym, subst}
+use mathlib.Core.Path.{_≡_, sym, subst}
 use mathlib.Core.Bool.{true, false, _&&_, and-eq-true-iff}
-use mathlib.Core.List.{List, [], _∷_}
+use mathlib.Core.List.{List}
 use Prim.Native.Nat.{ℕ, _+_, _-_, _*_, _≤_, _<_}
 use native.Mathlib.Omega.{arith}
 use borrow.Author.Tests.{leb-true, le-leb, lt-leb}
-use denote.Enum.Declared.{tagOf}
 use lib.Dec.{leb}
 use lib.ListN.{length, take, drop}
-use types.Run.{OneOf, miss}
-use Rattle.encode.specs.declared.Primitive.{Primitive}
 use Rattle.encode.specs.declared.Kind.{Kind}
-use Rattle.encode.specs.declared.Kind.the-variants.{Fixed, Char, Blob}
-use Rattle.encode.proofs.Kind.{the-type}
+use Rattle.encode.specs.declared.Kind.the-variants.{Char, Blob}
 use Rattle.plain.specs.Rows.{bytesIn}
 use Rattle.plain.specs.Plain.{endAt, startAt, charAt, blobAt, plainRow, leastBytes, endsGood}
 use Rattle.plain.proofs.Chars.{take-char}
@@ -22,20 +18,13 @@ use Rattle.plain.proofs.Items.{item-room}
 abbrev pub Lies : Kind → ℕ → List ℕ → ℕ → ℕ → ℕ → Type 0
 Lies k n s i from len = (from + len ≤ length s) × (take len (drop from s) ≡ bytesIn (plainRow k n s i))
 
-pub fixed-lies : {k : Kind} (p : Primitive) (n : ℕ) (s : List ℕ) (i : ℕ) → k ≡ Fixed p → Lies k n s i 0 0
-unfolding plainRow bytesIn
-fixed-lies p n s i e = subst (λ (j : Kind). Lies j n s i 0 0) (sym e) (omega arith, refl)
-
--- the same where a match found the kind, and what that is known to hold of
+-- what is known to hold, where a match found the kind
 module _ {k j : Kind} (e : k ≡ j) (n : ℕ) (s : List ℕ) where
   pub least-found : leastBytes k n ≤ length s → leastBytes j n ≤ length s
   least-found h = subst (λ (q : Kind). leastBytes q n ≤ length s) e h
 
   pub ends-found : (i : ℕ) → endsGood k n s i ≡ true → endsGood j n s i ≡ true
   ends-found i h = subst (λ (q : Kind). endsGood q n s i ≡ true) e h
-
-  pub lies-found : (i from len : ℕ) → Lies j n s i from len → Lies k n s i from len
-  lies-found i from len h = subst (λ (q : Kind). Lies q n s i from len) (sym e) h
 
 module _ (w n : ℕ) (s : List ℕ) (i : ℕ) (least : leastBytes (Char w) n ≤ length s) (h : i < n) where
   pub char-room : i * w + w ≤ length s
@@ -79,10 +68,3 @@ module _ {k : Kind} (n : ℕ) (s : List ℕ) (e : k ≡ Blob) (least : leastByte
           let f : a ≤ b = blob-forth in
           let w : b ≤ length s - 4 * n = blob-within in
           subst (λ (j : Kind). Lies j n s i (4 * n + a) (b - a)) (sym e) (omega arith, rw (start, end))
-
--- only blobs have ends
-pub no-ends : (k : Kind) (n : ℕ) (s : List ℕ) (i : ℕ) → OneOf (0 ∷ 1 ∷ []) (tagOf the-type k) → true ≡ endsGood k n s i
-unfolding endsGood
-no-ends (Fixed p) n s i h = refl
-no-ends (Char w) n s i h = refl
-no-ends Blob n s i h = absurd (miss (0 ∷ 1 ∷ []) 2 tt h)

@@ -247,34 +247,6 @@ pub fn blob_at(n: usize, s: &[u8], i: usize) -> Range
     }
 }
 
-// The bytes of item `i` of `n`; none for a fixed kind.
-pub fn range_at(kind: Kind, n: usize, s: &[u8], i: usize) -> Range
-    requires { ⌜ (i < n) × (n ≤ 1048576) × (leastBytes kind n ≤ length (now s)) × (endsGood kind n (now s) i ≡ true) ⌝ }
-    ensures { λ r. ⌜ (r .from + r .len ≤ length (now (s .entry))) × (take (r .len) (drop (r .from) (now (s .entry))) ≡ bytesIn (plainRow kind n (now (s .entry)) i)) ⌝ }
-{
-    match kind {
-        Kind::Fixed(_) => Range { from: 0, len: 0 },
-        Kind::Char(w) => char_at(w as usize, n, s, i),
-        Kind::Blob => blob_at(n, s, i),
-    }
-}
-
-// Whether rule 14 holds of item `i` of `n`.
-pub fn good_at(kind: Kind, n: usize, s: &[u8], i: usize) -> bool
-    requires { ⌜ (i < n) × (n ≤ 1048576) × (leastBytes kind n ≤ length (now s)) ⌝ }
-    ensures { λ r. ⌜ r ≡ endsGood kind n (now (s .entry)) i ⌝ }
-{
-    let Kind::Blob = kind else {
-        return true;
-    };
-    let from = start_at(s, i);
-    let to = end_at(s, i);
-    if to < from {
-        return false;
-    }
-    to <= s.len() - 4 * n
-}
-
 // ---- opening
 
 // Whether `n` ends never fall and never pass the data, and the last one is the data's length: 0, 14 or 11.

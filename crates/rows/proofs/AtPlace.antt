@@ -2,16 +2,17 @@
 use Prim.Native.Nat.{ℕ, zero, suc, _+_, _-_, _*_, _≤_, _<_}
 use native.Mathlib.Numerals.{add-one}
 use native.Mathlib.Omega.{arith}
-use mathlib.Core.Bool.{Bool, true, false, cond}
+use mathlib.Core.Bool.{Bool, true, false, cond, _&&_, and-false}
 use mathlib.Core.List.{List, [], _∷_}
-use mathlib.Core.Logic.{inl, inr}
-use mathlib.Core.Path.{_≡_, refl, sym, ap, _∙_}
-use lib.Dec.{ltb, eqb}
+use mathlib.Core.Logic.{inl, inr, ⊎-elim}
+use mathlib.Core.Path.{_≡_, refl, sym, ap, subst, _∙_}
+use lib.Dec.{ltb, leb, eqb}
 use lib.ListN.{length, take, drop, length-drop}
 use lib.Seq.{length-take-le}
-use types.Run.{OneOf}
+use types.Run.{OneOf, miss}
 use denote.Enum.Declared.{tagOf}
-use borrow.Author.Tests.{lt-ltb, le-ltb, ltb-true, eq-eqb, ne-eqb}
+use borrow.Author.Tests.{lt-ltb, le-ltb, ltb-true, le-leb, lt-leb, leb-true, leb-false, eq-eqb, ne-eqb}
+use Rattle.area.proofs.Laws.{lt-or-ge}
 use Rattle.encode.specs.declared.Kind.{Kind}
 use Rattle.encode.specs.declared.Kind.the-variants.{Fixed, Char, Blob}
 use Rattle.plain.specs.Rows.{bytesIn}
@@ -21,16 +22,18 @@ use Rattle.dict.specs.Dictionary.{slotAt, entryRow, entryGood}
 use Rattle.rows.specs.declared.Marks.{Marks}
 use Rattle.rows.specs.declared.Marks.the-variants.{Bare, Bits, Keys}
 use Rattle.rows.specs.declared.Source.{Source}
-use Rattle.rows.specs.Rows.{shownBy, seenBy, mostBy, rowBy, textOf, textBy, sizeBy, flagBy, goodBy, markBytes, Ready}
+use Rattle.rows.specs.declared.Weight.{Weight}
+use Rattle.rows.specs.declared.Weight.the-variants.{Sum, Broken}
+use Rattle.rows.specs.Rows.{shownBy, seenBy, mostBy, rowBy, textOf, textBy, sizeBy, flagBy, goodBy, seesBy, weightOf, markBytes, Ready}
 use Rattle.rows.proofs.Marks.{the-type}
 use Rattle.rows.proofs.Folds.{both}
 
--- ---- an item, counted from 1 on, is there and good: the returns of `slot_good`
-module _ (kind : Kind) (n : ℕ) (part : List ℕ) where
-  pub entry-null : (slot : ℕ) → slot ≡ 0 → true ≡ entryGood kind n part slot
-  unfolding entryGood
-  entry-null slot z = rw z
+-- the length of bytes that lie in a part
+pub part-length : (part : List ℕ) (from len : ℕ) {xs : List ℕ} → from + len ≤ length part → take len (drop from part) ≡ xs → len ≡ length xs
+part-length part from len h q = sym (length-take-le len (drop from part) (simp length-drop (omega arith))) ∙ ap length q
 
+-- ---- an item, counted from 1 on, is there and good
+module _ (kind : Kind) (n : ℕ) (part : List ℕ) where
   pub entry-past : (slot : ℕ) → (slot ≡ 0 → ⊥) → n ≤ slot - 1 → false ≡ entryGood kind n part slot
   unfolding entryGood
   entry-past zero z h = absurd (z refl)
@@ -40,6 +43,18 @@ module _ (kind : Kind) (n : ℕ) (part : List ℕ) where
   unfolding entryGood
   entry-there zero z h e = absurd (z refl)
   entry-there (suc i) z h e = let m : suc i - 1 ≡ i = omega arith in rw m at e ∙ simp (lt-ltb i n (omega arith))
+
+  -- one that is there, of a kind with no ends
+  pub entry-fine : (slot : ℕ) → slot ≤ n → ((i : ℕ) → endsGood kind n part i ≡ true) → entryGood kind n part slot ≡ true
+  unfolding entryGood
+  entry-fine zero h e = refl
+  entry-fine (suc i) h e = rw (e i) (simp (lt-ltb i n (omega arith)))
+
+  -- one that isn't good is not null
+  pub entry-some : (slot : ℕ) → entryGood kind n part slot ≡ false → 0 < slot
+  unfolding entryGood
+  entry-some zero h = let z : _≡_ {A = ℕ} 0 1 = cc in absurd (omega arith)
+  entry-some (suc i) h = omega arith
 
   -- what a good one tells
   entry-most : (slot : ℕ) → entryGood kind n part slot ≡ true → slot ≤ n
@@ -61,6 +76,34 @@ module _ (kind : Kind) (n : ℕ) (part : List ℕ) where
   unfolding textOf entryRow
   text-some zero z q = absurd (z refl)
   text-some (suc i) z q = let m : suc i - 1 ≡ i = omega arith in rw m at q
+
+  -- ---- the returns of `blob_weight`
+  pub weight-none : (slot : ℕ) → slot ≡ 0 → Sum 0 ≡ weightOf kind n part slot
+  unfolding weightOf textOf bytesIn entryRow entryGood
+  weight-none slot z = rw z
+
+  module _ (slot : ℕ) (z : slot ≡ 0 → ⊥) (h : slot - 1 < n) where
+    pub weight-bad : false ≡ endsGood kind n part (slot - 1) → Broken ≡ weightOf kind n part slot
+    unfolding weightOf
+    weight-bad e = rw (← entry-there slot z h e)
+
+    pub weight-some : true ≡ endsGood kind n part (slot - 1) → (from len : ℕ) → from + len ≤ length part
+        → take len (drop from part) ≡ bytesIn (plainRow kind n part (slot - 1)) → Sum len ≡ weightOf kind n part slot
+    unfolding weightOf
+    weight-some e from len m q = rw (← entry-there slot z h e) (ap Sum (part-length part from len m (text-some slot z q)))
+
+  -- and what it tells of an item: it is good, and so many bytes long
+  abbrev Weighty : ℕ → Weight → Type 0
+  Weighty slot (Sum len) = (entryGood kind n part slot ≡ true) × (len ≡ length (textOf kind n part slot))
+  Weighty slot Broken = entryGood kind n part slot ≡ false
+
+  pub weighty : (slot : ℕ) {x y : Weight} → x ≡ weightOf kind n part slot → x ≡ y → Weighty slot y
+  unfolding weightOf
+  weighty slot e q = subst (Weighty slot) (sym e ∙ q) (go (entryGood kind n part slot) refl)
+    where
+      go : (b : Bool) → entryGood kind n part slot ≡ b → Weighty slot (cond b (Sum (length (textOf kind n part slot))) Broken)
+      go true h = (h, refl)
+      go false h = h
 
 -- ---- how many places there are, and which item is looked at
 -- an arm for rows with a bit or none, by the numbers of these marks, is none for keys
@@ -99,7 +142,25 @@ shown-seen Bits marks i z = go (eqb (bitAt marks i) 0) refl
     go true e = absurd (z (rw e))
     go false e = refl
 
+-- where none is looked at, none is shown; and only a bit hides one
+pub shown-none : (by : Marks) (marks : List ℕ) (i : ℕ) → seenBy by marks i ≡ 0 → shownBy by marks i ≡ 0
+unfolding shownBy seenBy
+shown-none Bare marks i e = absurd (omega (arith, e))
+shown-none Bits marks i e = absurd (omega (arith, e))
+shown-none Keys marks i e = e
+
+pub shown-all : (by : Marks) (marks : List ℕ) (i : ℕ) → OneOf (0 ∷ 2 ∷ []) (tagOf the-type by) → seenBy by marks i ≡ shownBy by marks i
+unfolding shownBy seenBy
+shown-all Bare marks i h = refl
+shown-all Bits marks i h = absurd (miss (0 ∷ 2 ∷ []) 1 tt h)
+shown-all Keys marks i h = refl
+
 module _ {by : Marks} (marks : List ℕ) (i : ℕ) where
+  -- a row with a bit looks at its own item
+  pub bits-seen : by ≡ Bits → seenBy by marks i ≡ i + 1
+  unfolding seenBy
+  bits-seen e = rw e (sym (add-one i))
+
   pub shown-bare : by ≡ Bare → i + 1 ≡ shownBy by marks i
   unfolding shownBy
   shown-bare e = rw e (add-one i)
@@ -179,7 +240,7 @@ sizes s marks items i = refl
 module _ (s : Source) (marks items : List ℕ) (i : ℕ) where
   pub part-size : (from len : ℕ) → from + len ≤ length items → take len (drop from items) ≡ textBy s marks items i → len ≡ sizeBy s marks items i
   unfolding sizeBy
-  part-size from len h q = sym (length-take-le len (drop from items) (simp length-drop (omega arith))) ∙ ap length q
+  part-size from len h q = part-length items from len h q
 
   module _ {slot : ℕ} (e : slot ≡ shownBy (s .marks) marks i) where
     pub text-shown : {xs : List ℕ} → xs ≡ textOf (s .kind) (s .items) items slot → xs ≡ textBy s marks items i
@@ -197,12 +258,44 @@ module _ (s : Source) (marks items : List ℕ) (i : ℕ) where
         go (suc n) z (Char w) = q .1 (omega arith)
         go (suc n) z Blob = q .1 (omega arith)
 
-  -- ---- the returns of `good`, by how many places there are and which item is looked at
-  module _ {most : ℕ} (m : mostBy (s .marks) (s .items) (s .runs) ≡ most) where
-    pub good-past : most ≤ i → false ≡ goodBy s marks items i
-    unfolding goodBy
-    good-past h = rw m (simp (le-ltb i most h))
+-- ---- a place that is there, with the item that it looks at
+module _ (s : Source) (marks : List ℕ) (i : ℕ) where
+  abbrev most : ℕ
+  most = mostBy (s .marks) (s .items) (s .runs)
 
-    pub good-there : {seen : ℕ} {x : Bool} → seenBy (s .marks) marks i ≡ seen → i < most → x ≡ entryGood (s .kind) (s .items) items seen → x ≡ goodBy s marks items i
-    unfolding goodBy
-    good-there n h q = q ∙ rw (m, n) (simp (lt-ltb i most h))
+  abbrev seen : ℕ
+  seen = seenBy (s .marks) marks i
+
+  -- by what `seen_at` says
+  module _ {r : ℕ} (past : most ≤ i → s .items < r) (there : i < most → r ≡ seen) where
+    pub sees-none : s .items < r → seesBy s marks i ≡ false
+    unfolding seesBy
+    sees-none h = ⊎-elim
+        (λ (l : i < most). rw (lt-leb seen (s .items) (omega (arith, there l))) (and-false (ltb i most)))
+        (λ (l : most ≤ i). simp (le-ltb i most l))
+        (lt-or-ge i most)
+
+    pub sees-some : r ≤ s .items → (seesBy s marks i ≡ true) × (r ≡ seen)
+    unfolding seesBy
+    sees-some h = ⊎-elim
+        (λ (l : i < most). (rw (lt-ltb i most l) (le-leb seen (s .items) (omega (arith, there l))), there l))
+        (λ (l : most ≤ i). absurd (omega (arith, past l)))
+        (lt-or-ge i most)
+
+  pub sees-most : seesBy s marks i ≡ true → seen ≤ s .items
+  unfolding seesBy
+  sees-most h = leb-true seen (s .items) (both (ltb i most) (leb seen (s .items)) h .1)
+
+  -- it is as good as its item; and a place that is not there isn't good
+  module _ (items : List ℕ) where
+    pub unseen-bad : seesBy s marks i ≡ false → goodBy s marks items i ≡ false
+    unfolding seesBy goodBy
+    unseen-bad h = go (ltb i most) h
+      where
+        go : (b : Bool) → (b && leb seen (s .items)) ≡ false → (b && entryGood (s .kind) (s .items) items seen) ≡ false
+        go false h = refl
+        go true h = let l = leb-false seen (s .items) h in sym (entry-past (s .kind) (s .items) items seen (λ z. omega arith) (omega arith))
+
+    pub seen-good : {b : Bool} → seesBy s marks i ≡ true → entryGood (s .kind) (s .items) items seen ≡ b → goodBy s marks items i ≡ b
+    unfolding seesBy goodBy
+    seen-good h e = rw (both (ltb i most) (leb seen (s .items)) h .0) e

@@ -2,13 +2,12 @@
 use Prim.Native.Nat.{ℕ, zero, suc, _+_, _-_, _*_, _^_, _≤_, _<_}
 use native.Mathlib.Nat.{add-zero, zero-mul, mul-le-mul-left}
 use native.Mathlib.Omega.{arith}
-use mathlib.Core.Bool.{Bool, true, false, cond}
+use mathlib.Core.Bool.{Bool, true, false}
 use mathlib.Core.List.{List, _++_}
 use mathlib.Core.Logic.{⊎-elim}
-use mathlib.Core.Path.{_≡_, refl, sym, ap, subst, _∙_}
-use lib.Dec.{eqb}
+use mathlib.Core.Path.{_≡_, refl, sym, _∙_}
 use lib.ListN.{replicate}
-use borrow.Author.Tests.{lt-ltb, le-ltb, eq-eqb, ne-eqb, eqb-true, eqb-false}
+use borrow.Author.Tests.{lt-ltb, le-ltb}
 use Rattle.area.proofs.Laws.{lt-or-ge}
 use Rattle.plain.specs.Plain.{allOf}
 use Rattle.rle.specs.declared.Spot.{Spot}
@@ -16,12 +15,11 @@ use Rattle.rle.specs.declared.Piece.{Piece}
 use Rattle.rle.specs.declared.Piece.the-variants.{Rows, Stuck as NoPiece}
 use Rattle.rle.specs.Stepping.{Steps, stuck, rows, before}
 use Rattle.rle.specs.Pieces.{pieceIn, stepsIn}
-use Rattle.rows.specs.declared.Weight.{Weight}
-use Rattle.rows.specs.declared.Weight.the-variants.{Sum, Broken}
 use Rattle.rows.specs.declared.Weighed.the-variants.{Total, Stuck}
-use Rattle.rows.specs.Rows.{startsBy, capped, sumOf, heavier, weighedBy}
+use Rattle.rows.specs.Rows.{startsBy, capped, sumOf, weighedBy}
 use Rattle.rows.proofs.Folds.{all-append, all-same, all-bad, sum-append, sum-same}
 use Rattle.rows.proofs.Going.{Going, going-start, going-end, going-stuck, going-on, whole-on}
+use Rattle.rows.proofs.Putting.{run-same}
 
 -- ---- a number that is capped
 pub capped-small : (t : ℕ) → t ≤ 4294967296 → capped t ≡ t
@@ -46,42 +44,6 @@ capped-capped a b = ⊎-elim
     more zero = rw add-zero (capped-small 4294967296 (omega arith))
     more (suc c) = capped-large (4294967296 + suc c) (omega arith)
 
-module _ (p : ℕ → Bool) (f : ℕ → ℕ) (i m total : ℕ) where
-  -- ---- the returns of `weigh_run`
-  pub heavier-none : m ≡ 0 → Sum total ≡ heavier p f i m total
-  unfolding heavier
-  heavier-none z = simp (eq-eqb m 0 z)
-
-  module _ (z : m ≡ 0 → ⊥) where
-    pub heavier-bad : p i ≡ false → Broken ≡ heavier p f i m total
-    unfolding heavier
-    heavier-bad h = rw h (simp (ne-eqb m 0 z))
-
-    module _ (h : p i ≡ true) {d : ℕ} (e : d ≡ f i) where
-      grows : Sum (capped (total + m * d)) ≡ heavier p f i m total
-      unfolding heavier
-      grows = rw (h, e) (simp (ne-eqb m 0 z))
-
-      pub heavier-large : 4294967296 < total + m * d → Sum 4294967296 ≡ heavier p f i m total
-      heavier-large l = ap Sum (sym (capped-large _ l)) ∙ grows
-
-      pub heavier-small : total + m * d ≤ 4294967296 → Sum (total + m * d) ≡ heavier p f i m total
-      heavier-small l = ap Sum (sym (capped-small _ l)) ∙ grows
-
-  -- ---- what its answer says
-  abbrev Tells : Weight → Type 0
-  Tells (Sum sum) = (0 < m → p i ≡ true) × (sum ≡ capped (total + m * f i))
-  Tells Broken = (0 < m) × (p i ≡ false)
-
-  tells : total ≤ 4294967296 → Tells (heavier p f i m total)
-  unfolding heavier
-  tells l = go (eqb m 0) refl (p i) refl
-    where
-      go : (z : Bool) → eqb m 0 ≡ z → (t : Bool) → p i ≡ t → Tells (cond z (Sum total) (cond t (Sum (capped (total + m * f i))) Broken))
-      go true h t g = let n : m ≡ 0 = eqb-true m 0 h in ((λ k. absurd (omega arith)), rw (n, zero-mul, add-zero) (sym (capped-small total l)))
-      go false h true g = ((λ k. g), refl)
-      go false h false g = let n = eqb-false m 0 h in (omega arith, g)
-
 -- ---- the weight of all rows: there is none where one isn't good
 module _ (p : ℕ → Bool) (f : ℕ → ℕ) where
   weighed-bad : (is : List ℕ) (w : Steps) → allOf p is ≡ false → Stuck ≡ weighedBy p f (before is w)
@@ -101,7 +63,7 @@ module _ (p : ℕ → Bool) (f : ℕ → ℕ) where
 pub product : (m d : ℕ) → m < 2 ^ 32 → d ≤ 16777216 → m * d ≤ 72057594037927936
 product m d h k = let a : m * d ≤ m * 16777216 = mul-le-mul-left m k in omega arith
 
--- ---- the loop of `weigh`
+-- ---- the loops of `weigh`
 pub record Weighing (p : ℕ → Bool) (f : ℕ → ℕ) (coded : Bool) (runs : ℕ) (counts : List ℕ) (n : ℕ) (from at : Spot) (left total : ℕ) : Type 0 where
   pub going : Going coded runs counts n from at left
   pub right : allOf p (going .done) ≡ true
@@ -125,23 +87,21 @@ module _ {p : ℕ → Bool} {f : ℕ → ℕ} {coded : Bool} {runs : ℕ} {count
     pub weighing-stuck : x ≡ NoPiece → Stuck ≡ weighedBy p f (stepsIn coded runs counts n from)
     weighing-stuck b = weighed-stuck p f (going-stuck (w .going) l e b)
 
-    module _ {k : ℕ} {t : Spot} (b : x ≡ Rows k t) {y : Weight} (q : y ≡ heavier p f (at .run) k total) where
-      told : {z : Weight} → y ≡ z → Tells p f (at .run) k total z
-      told i = subst (Tells p f (at .run) k total) (sym q ∙ i) (tells p f (at .run) k total weighing-small)
+    module _ {k : ℕ} {t : Spot} (b : x ≡ Rows k t) where
+      pub weighing-broken : 0 < k → p (at .run) ≡ false → Stuck ≡ weighedBy p f (stepsIn coded runs counts n from)
+      weighing-broken m h =
+          rw (whole-on (w .going) l e b) (weighed-bad p f (w .going .done ++ replicate k (at .run)) _ (all-bad p (w .going .done) k (at .run) m h))
 
-      pub weighing-broken : y ≡ Broken → Stuck ≡ weighedBy p f (stepsIn coded runs counts n from)
-      weighing-broken i =
-          let h = told i in
-          rw (whole-on (w .going) l e b) (weighed-bad p f (w .going .done ++ replicate k (at .run)) _ (all-bad p (w .going .done) k (at .run) (h .0) (h .1)))
-
-      pub weighing-on : {sum : ℕ} → y ≡ Sum sum → Weighing p f coded runs counts n from t (left - k) sum
+      -- the step: the rows of the run are good, and d bytes long
+      pub weighing-on : (0 < k → p (at .run) ≡ true) → {d : ℕ} → (0 < k → d ≡ f (at .run)) → {sum : ℕ} → sum ≡ capped (total + k * d)
+          → Weighing p f coded runs counts n from t (left - k) sum
       unfolding going-on
-      weighing-on {sum} i =
+      weighing-on h {d} g q =
           let is : List ℕ = w .going .done in
           let js : List ℕ = replicate k (at .run) in
-          let h = told i in
+          let m : k * d ≡ k * f (at .run) = run-same (λ (c : ℕ). k * c) k (λ z. rw z (zero-mul d ∙ sym (zero-mul _))) g in
           record {
             going = going-on (w .going) l e b;
-            right = rw (all-append p is js, w .right) (all-same p k (at .run) (h .0));
-            weight = h .1 ∙ rw (w .weight, capped-capped (sumOf f is) (k * f (at .run)), sum-append f is js, sum-same f k (at .run));
+            right = rw (all-append p is js, w .right) (all-same p k (at .run) h);
+            weight = q ∙ rw (m, w .weight, capped-capped (sumOf f is) (k * f (at .run)), sum-append f is js, sum-same f k (at .run));
           }

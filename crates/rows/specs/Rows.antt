@@ -4,7 +4,7 @@ use Prim.Native.Nat.{ℕ, zero, suc, _+_, _*_, _^_, _≤_, _<_}
 use mathlib.Core.Path.{_≡_}
 use mathlib.Core.Bool.{Bool, true, false, cond, _&&_}
 use mathlib.Core.List.{List, [], _∷_}
-use lib.Dec.{ltb, eqb}
+use lib.Dec.{ltb, leb, eqb}
 use lib.IntN.{ℤ}
 use lib.ListN.{length}
 use Rattle.encode.specs.Kinds.{defaultValue}
@@ -23,6 +23,8 @@ use Rattle.dict.specs.Dictionary.{slotAt, entryRow, entryGood}
 use Rattle.rows.specs.declared.Marks.{Marks}
 use Rattle.rows.specs.declared.Marks.the-variants.{Bare, Bits, Keys}
 use Rattle.rows.specs.declared.Source.{Source}
+use Rattle.rows.specs.declared.Look.{Look}
+use Rattle.rows.specs.declared.Look.the-variants.{Item, Wrong}
 use Rattle.rows.specs.declared.Weight.{Weight}
 use Rattle.rows.specs.declared.Weight.the-variants.{Sum, Broken}
 use Rattle.rows.specs.declared.Weighed.{Weighed}
@@ -78,6 +80,15 @@ unfoldable pub goodBy : Source → List ℕ → List ℕ → ℕ → Bool
 goodBy s marks items i =
     ltb i (mostBy (s .marks) (s .items) (s .runs)) && entryGood (s .kind) (s .items) items (seenBy (s .marks) marks i)
 
+-- place i is there, and so is the item that it looks at
+unfoldable pub seesBy : Source → List ℕ → ℕ → Bool
+seesBy s marks i = ltb i (mostBy (s .marks) (s .items) (s .runs)) && leb (seenBy (s .marks) marks i) (s .items)
+
+-- the first look at some rows of place i, and at their item; at none, where there are no rows
+unfoldable pub lookBy : Source → List ℕ → ℕ → Piece → Look
+lookBy s marks i NoPiece = Wrong
+lookBy s marks i (Some k t) = cond (eqb k 0) (Item 0 k t) (cond (seesBy s marks i) (Item (seenBy (s .marks) marks i) k t) Wrong)
+
 -- the parts are long enough for their items, bits and keys
 unfoldable pub markBytes : Marks → ℕ → ℕ → ℕ → Type 0
 markBytes Bare items runs n = Unit
@@ -107,9 +118,9 @@ unfoldable pub sumOf : (ℕ → ℕ) → List ℕ → ℕ
 sumOf f [] = 0
 sumOf f (i ∷ is) = f i + sumOf f is
 
--- so many rows of place i more
-unfoldable pub heavier : (ℕ → Bool) → (ℕ → ℕ) → ℕ → ℕ → ℕ → Weight
-heavier p f i m total = cond (eqb m 0) (Sum total) (cond (p i) (Sum (capped (total + m * f i))) Broken)
+-- an item that is looked at, counted from 1 on: its bytes, if it is good
+unfoldable pub weightOf : Kind → ℕ → List ℕ → ℕ → Weight
+weightOf k n items slot = cond (entryGood k n items slot) (Sum (length (textOf k n items slot))) Broken
 
 unfoldable pub weighedBy : (ℕ → Bool) → (ℕ → ℕ) → Steps → Weighed
 weighedBy p f stuck = Stuck

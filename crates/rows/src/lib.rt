@@ -1,6 +1,6 @@
 // The rows of a block, from its counts, its marks and its items: the same loops for every encoding, in two passes. The first
-// looks (counts, ends, keys, the bytes in all); the second writes what the first has found good, and asks for the kind
-// before its loops, not in them.
+// looks (counts, ends, keys, the bytes in all); the second writes what the first has found good. Both ask for the kind before
+// their loops, not in them.
 use encode::BoolKind;
 use encode::DateKind;
 use encode::I16Kind;
@@ -23,8 +23,7 @@ ghost use Rattle.plain.specs.Plain.{joined, endsFrom, leastBytes, endsGood};
 ghost use Rattle.rle.specs.declared.Piece.the-variants.{Rows};
 ghost use Rattle.rle.specs.Pieces.{pieceIn, stepsIn, runsOf};
 ghost use Rattle.area.specs.Area.{repeats, climbs};
-ghost use Rattle.dict.specs.Dictionary.{entryGood};
-ghost use Rattle.rows.specs.Rows.{shownBy, textOf, textBy, sizeBy, intBy, valueOf, valueBy, flagBy, goodBy, Ready, Starts, sumOf, heavier, weighedBy, Good, Writes, Texts};
+ghost use Rattle.rows.specs.Rows.{shownBy, seenBy, mostBy, textOf, textBy, sizeBy, intBy, valueOf, valueBy, flagBy, goodBy, Ready, Starts, capped, sumOf, lookBy, weightOf, weighedBy, Good, Writes, Texts};
 
 // What stands beside the items: nothing, a bit a row, or a key a run.
 pub enum Marks {
@@ -42,13 +41,14 @@ pub struct Source {
     pub coded: bool,
 }
 
-// The bytes of some rows, of which 4,294,967,296 stands for all that are more; or an item or a key is wrong.
+// The bytes of an item; or it is wrong.
 pub enum Weight {
     Sum(usize),
     Broken,
 }
 
-// The same of the next rows, and the place after them; or a count, an item or a key is wrong.
+// The bytes of the next rows, of which 4,294,967,296 stands for all that are more, and the place after them; or a count, an
+// item or a key is wrong.
 pub enum Weighed {
     Total { bytes: usize, next: Spot },
     Stuck,
@@ -73,104 +73,226 @@ fn shown(s: Source, marks: &[u8], items: &[u8], i: usize) -> usize
     }
 }
 
-// Whether an item, counted from 1 on, is there and good. 0 is null, which has none.
-fn slot_good(kind: Kind, n: usize, items: &[u8], slot: usize) -> bool
-    requires { ⌜ (n ≤ 1048576) × (leastBytes kind n ≤ length (now items)) ⌝ }
-    ensures { λ r. ⌜ r ≡ entryGood kind n (now (items .entry)) slot ⌝ }
-{
-    if slot == 0 {
-        return true;
-    }
-    let i = slot - 1;
-    if n <= i {
-        return false;
-    }
-    plain::good_at(kind, n, items, i)
-}
-
-// Whether place `i` is there and its item is good: under a null bit too. A null key has no item.
-fn good(s: Source, marks: &[u8], items: &[u8], i: usize) -> bool
-    requires { ⌜ Ready s (now marks) (now items) ⌝ }
-    ensures { λ r. ⌜ r ≡ goodBy s (now (marks .entry)) (now (items .entry)) i ⌝ }
-{
-    let kind = s.kind;
-    let by = s.marks;
-    match by {
-        Marks::Bare | Marks::Bits => {
-            if s.items <= i {
-                return false;
-            }
-            slot_good(kind, s.items, items, i + 1)
-        }
-        Marks::Keys => {
-            if s.runs <= i {
-                return false;
-            }
-            slot_good(kind, s.items, items, dict::slot_at(marks, i))
-        }
-    }
-}
-
-// The bytes of place `i`: none of a null.
-fn text(s: Source, marks: &[u8], items: &[u8], i: usize) -> Range
-    requires { ⌜ Ready s (now marks) (now items) × (goodBy s (now marks) (now items) i ≡ true) ⌝ }
-    ensures { λ r. ⌜ (r .from + r .len ≤ length (now (items .entry))) × (take (r .len) (drop (r .from) (now (items .entry))) ≡ textBy s (now (marks .entry)) (now (items .entry)) i) ⌝ }
-{
-    let slot = shown(s, marks, items, i);
-    if slot == 0 {
-        return Range { from: 0, len: 0 };
-    }
-    let kind = s.kind;
-    plain::range_at(kind, s.items, items, slot - 1)
-}
-
 // ---- the first pass
 
-// `rows` rows of place `i` more.
-fn weigh_run(s: Source, marks: &[u8], items: &[u8], i: usize, rows: usize, total: usize) -> Weight
-    requires { ⌜ Ready s (now marks) (now items) × (rows < 2 ^ 32) × (total ≤ 2 ^ 32) ⌝ }
-    ensures { λ r. ⌜ r ≡ heavier (goodBy s (now (marks .entry)) (now (items .entry))) (sizeBy s (now (marks .entry)) (now (items .entry))) i rows total ⌝ }
-{
-    if rows == 0 {
-        return Weight::Sum(total);
-    }
-    if !good(s, marks, items, i) {
-        return Weight::Broken;
-    }
-    let range = text(s, marks, items, i);
-    let sum = total + rows * range.len;
-    if 4294967296 < sum {
-        return Weight::Sum(4294967296);
-    }
-    Weight::Sum(sum)
+// A run that is looked at: its item, from 1 on (0 is none: a null key has none, and a run that was used up is not looked at),
+// how many rows, and the place after them; or the count or the key is wrong.
+pub enum Look {
+    Item {
+        seen: usize,
+        rows: usize,
+        next: Spot,
+    },
+    Wrong,
 }
 
-// Looks at the next `n` rows, run by run.
-pub fn weigh(s: Source, counts: &[u8], marks: &[u8], items: &[u8], from: Spot, n: usize) -> Weighed
-    requires { ⌜ Ready s (now marks) (now items) × Starts s from n ⌝ }
+// Which item place `i` looks at, from 1 on: under a null bit too, and none for a null key. Past the items, where there is no such
+// place.
+fn seen_at(s: Source, marks: &[u8], items: &[u8], i: usize) -> usize
+    requires { ⌜ Ready s (now marks) (now items) × (i ≤ 1048576) ⌝ }
+    ensures { λ r. ⌜ (mostBy (s .marks) (s .items) (s .runs) ≤ i → s .items < r) × (i < mostBy (s .marks) (s .items) (s .runs) → r ≡ seenBy (s .marks) (now (marks .entry)) i) ⌝ }
+{
+    let by = s.marks;
+    match by {
+        Marks::Bare | Marks::Bits => i + 1,
+        Marks::Keys => {
+            if s.runs <= i {
+                return s.items + 1;
+            }
+            dict::slot_at(marks, i)
+        }
+    }
+}
+
+// The next run that is looked at: its item is there.
+fn look_at(s: Source, counts: &[u8], marks: &[u8], items: &[u8], at: Spot, left: usize) -> Look
+    requires { ⌜ Ready s (now marks) (now items) × (at .run ≤ 1048576) ⌝ }
+    ensures { λ r. ⌜ r ≡ lookBy s (now (marks .entry)) (at .run) (pieceIn (s .coded) (s .runs) (now (counts .entry)) at left) ⌝ }
+{
+    let piece = rle::take_piece(s.coded, counts, s.runs, at, left);
+    let Piece::Rows { rows, next } = piece else {
+        return Look::Wrong;
+    };
+    if rows == 0 {
+        return Look::Item {
+            seen: 0,
+            rows,
+            next,
+        };
+    }
+    let seen = seen_at(s, marks, items, at.run);
+    if s.items < seen {
+        return Look::Wrong;
+    }
+    Look::Item { seen, rows, next }
+}
+
+// Which item is shown, of the one that is looked at: none under a null bit.
+fn shown_of(s: Source, marks: &[u8], items: &[u8], i: usize, seen: usize) -> usize
+    requires { ⌜ Ready s (now marks) (now items) × (seen ≤ s .items) × (0 < seen → seen ≡ seenBy (s .marks) (now marks) i) ⌝ }
+    ensures { λ r. ⌜ (0 < r → r ≡ seen) × (seen ≡ seenBy (s .marks) (now (marks .entry)) i → r ≡ shownBy (s .marks) (now (marks .entry)) i) ⌝ }
+{
+    if seen == 0 {
+        return 0;
+    }
+    let by = s.marks;
+    match by {
+        Marks::Bits => {
+            if nullable::bit_at(marks, i) == 0 {
+                0
+            } else {
+                seen
+            }
+        }
+        Marks::Bare | Marks::Keys => seen,
+    }
+}
+
+// `rows` rows of `len` bytes more.
+fn heavier(total: usize, rows: usize, len: usize) -> usize
+    requires { ⌜ (total ≤ 2 ^ 32) × (rows < 2 ^ 32) × (len ≤ 16777216) ⌝ }
+    ensures { λ r. ⌜ r ≡ capped (total + rows * len) ⌝ }
+{
+    let sum = total + rows * len;
+    if 4294967296 < sum {
+        return 4294967296;
+    }
+    sum
+}
+
+// Looks at the next `n` rows, run by run. A loop for the fixed kinds, whose rows have no bytes, one for char and one for blob, so
+// that no loop asks for the kind.
+fn weigh_fixed(
+    s: Source,
+    counts: &[u8],
+    marks: &[u8],
+    items: &[u8],
+    from: Spot,
+    n: usize,
+) -> Weighed
+    requires { ⌜ Ready s (now marks) (now items) × Starts s from n × (Texts (s .kind) → ⊥) ⌝ }
     ensures { λ r. ⌜ r ≡ weighedBy (goodBy s (now (marks .entry)) (now (items .entry))) (sizeBy s (now (marks .entry)) (now (items .entry))) (stepsIn (s .coded) (s .runs) (now (counts .entry)) n from) ⌝ }
 {
-    let coded = s.coded;
-    let runs = s.runs;
+    let mut at = from;
+    let mut left = n;
+    while 0 < left {
+        let look = look_at(s, counts, marks, items, at, left);
+        let Look::Item {
+            seen: _,
+            rows,
+            next,
+        } = look
+        else {
+            return Weighed::Stuck;
+        };
+        left -= rows;
+        at = next;
+    }
+    Weighed::Total { bytes: 0, next: at }
+}
+
+fn weigh_chars(
+    w: usize,
+    s: Source,
+    counts: &[u8],
+    marks: &[u8],
+    items: &[u8],
+    from: Spot,
+    n: usize,
+) -> Weighed
+    requires { ⌜ Ready s (now marks) (now items) × Starts s from n × (s .kind ≡ Char w) × (w < 256) ⌝ }
+    ensures { λ r. ⌜ r ≡ weighedBy (goodBy s (now (marks .entry)) (now (items .entry))) (sizeBy s (now (marks .entry)) (now (items .entry))) (stepsIn (s .coded) (s .runs) (now (counts .entry)) n from) ⌝ }
+{
     let mut at = from;
     let mut left = n;
     let mut total: usize = 0;
     while 0 < left {
-        let piece = rle::take_piece(coded, counts, runs, at, left);
-        let Piece::Rows { rows, next } = piece else {
+        let look = look_at(s, counts, marks, items, at, left);
+        let Look::Item { seen, rows, next } = look else {
             return Weighed::Stuck;
         };
-        let weight = weigh_run(s, marks, items, at.run, rows, total);
-        let Weight::Sum(sum) = weight else {
-            return Weighed::Stuck;
-        };
-        total = sum;
+        let slot = shown_of(s, marks, items, at.run, seen);
+        let range = char_of(w, s.items, items, slot);
+        total = heavier(total, rows, range.len);
         left -= rows;
         at = next;
     }
     Weighed::Total {
         bytes: total,
         next: at,
+    }
+}
+
+// The bytes of a blob item that is looked at, counted from 1 on; or rule 14 does not hold of it.
+fn blob_weight(n: usize, items: &[u8], slot: usize) -> Weight
+    requires { ⌜ (slot ≤ n) × (n ≤ 1048576) × (leastBytes Blob n ≤ length (now items)) ⌝ }
+    ensures { λ r. ⌜ r ≡ weightOf Blob n (now (items .entry)) slot ⌝ }
+{
+    if slot == 0 {
+        return Weight::Sum(0);
+    }
+    let from = plain::start_at(items, slot - 1);
+    let to = plain::end_at(items, slot - 1);
+    if to < from {
+        return Weight::Broken;
+    }
+    if items.len() - 4 * n < to {
+        return Weight::Broken;
+    }
+    Weight::Sum(to - from)
+}
+
+// The bytes of a row that shows an item of `len` bytes, or none.
+fn len_of(slot: usize, len: usize) -> usize
+    ensures { λ r. ⌜ (slot ≡ 0 → r ≡ 0) × (0 < slot → r ≡ len) × (r ≤ len) ⌝ }
+{
+    if slot == 0 { 0 } else { len }
+}
+
+fn weigh_blobs(
+    s: Source,
+    counts: &[u8],
+    marks: &[u8],
+    items: &[u8],
+    from: Spot,
+    n: usize,
+) -> Weighed
+    requires { ⌜ Ready s (now marks) (now items) × Starts s from n × (s .kind ≡ Blob) ⌝ }
+    ensures { λ r. ⌜ r ≡ weighedBy (goodBy s (now (marks .entry)) (now (items .entry))) (sizeBy s (now (marks .entry)) (now (items .entry))) (stepsIn (s .coded) (s .runs) (now (counts .entry)) n from) ⌝ }
+{
+    let mut at = from;
+    let mut left = n;
+    let mut total: usize = 0;
+    while 0 < left {
+        let look = look_at(s, counts, marks, items, at, left);
+        let Look::Item { seen, rows, next } = look else {
+            return Weighed::Stuck;
+        };
+        let weight = blob_weight(s.items, items, seen);
+        let Weight::Sum(len) = weight else {
+            return Weighed::Stuck;
+        };
+        let slot = shown_of(s, marks, items, at.run, seen);
+        total = heavier(total, rows, len_of(slot, len));
+        left -= rows;
+        at = next;
+    }
+    Weighed::Total {
+        bytes: total,
+        next: at,
+    }
+}
+
+// Looks at the next `n` rows.
+pub fn weigh(s: Source, counts: &[u8], marks: &[u8], items: &[u8], from: Spot, n: usize) -> Weighed
+    requires { ⌜ Ready s (now marks) (now items) × Starts s from n ⌝ }
+    ensures { λ r. ⌜ r ≡ weighedBy (goodBy s (now (marks .entry)) (now (items .entry))) (sizeBy s (now (marks .entry)) (now (items .entry))) (stepsIn (s .coded) (s .runs) (now (counts .entry)) n from) ⌝ }
+{
+    let kind = s.kind;
+    match kind {
+        Kind::Fixed(_) => weigh_fixed(s, counts, marks, items, from, n),
+        Kind::Char(w) => weigh_chars(w as usize, s, counts, marks, items, from, n),
+        Kind::Blob => weigh_blobs(s, counts, marks, items, from, n),
     }
 }
 
