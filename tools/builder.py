@@ -1,0 +1,255 @@
+"""A second reading of document 01, "Building" and "Sizes", in Python, made apart from the definitions under crates/build/specs.
+
+It says of every call what it answers and what the lent areas then hold, for any record and any memory. A record is a dictionary of
+FIELDS; the areas are a dictionary of AREAS, of each of which the first cells are lent, as many as `lent` says. tools/building.py
+makes the stored answers of the program `builds` with it.
+"""
+from model import BLOB, CHAR, FIXED, MOST_RUN, NULL_KEY, spell
+import model
+
+MOST_ROWS, MOST_ITEMS, MOST_ENTRIES, MOST_BYTES = 2**48 - 1, 2**20, 2**16, 2**24
+FIELDS = ("kind", "encoding", "width", "target", "rows", "runs", "entries", "bytes", "last", "null", "counts")
+AREAS = ("items", "ends", "flags", "counts", "keys", "lens")
+
+
+class Nine(Exception):
+    """A field that is read is wrong."""
+
+
+# ---- the record
+
+def known(r):
+    return model.known(r["kind"], r["encoding"], r["width"])
+
+
+def create(kind, encoding, width, target):
+    """A record, or None where the column is refused."""
+    if not model.known(kind, encoding, width):
+        return None
+    return dict.fromkeys(FIELDS, 0) | {"kind": kind, "encoding": encoding, "width": width, "target": target}
+
+
+def width_of(r):
+    return model.size_of(r["kind"], r["width"])
+
+
+def stored(r):
+    return (r["rows"], r["rows"], r["runs"], r["runs"], r["entries"])[r["encoding"]]
+
+
+def plain_bytes(r):
+    return r["bytes"] + (4 * stored(r) if r["kind"] == BLOB else 0)
+
+
+def finished_bytes(r):
+    e = r["encoding"]
+    inner = plain_bytes(r)
+    if e in (1, 3):
+        inner += (stored(r) + 7) // 8 + 4
+    if e in (2, 3):
+        return 8 + r["counts"] + inner if r["runs"] else 0
+    if e == 4:
+        return 12 + (8 + r["counts"] + 4 * r["runs"] if r["runs"] else 0) + inner
+    return inner
+
+
+def past(r):
+    e = r["encoding"]
+    return (r["rows"] > MOST_ROWS or (r["rows"] if e < 2 else r["runs"]) > MOST_ITEMS
+            or e == 4 and r["entries"] > MOST_ENTRIES or finished_bytes(r) > MOST_BYTES)
+
+
+def record_wrong(r):
+    if not known(r):
+        return True
+    n = stored(r)
+    if r["kind"] == BLOB:
+        if n == 0 and r["bytes"] != 0:
+            return True
+    elif r["bytes"] != n * width_of(r):
+        return True
+    return past(r) or r["encoding"] >= 2 and r["counts"] > MOST_BYTES
+
+
+def needs(r):
+    e, n = r["encoding"], stored(r)
+    return {"items": r["bytes"], "ends": n if r["kind"] == BLOB else 0, "flags": (n + 7) // 8 if e in (1, 3) else 0,
+            "counts": r["runs"] if e >= 2 else 0, "keys": r["runs"] if e == 4 else 0, "lens": n if r["kind"] == CHAR else 0}
+
+
+def too_short(r, lent):
+    need = needs(r)
+    return any(lent[x] < need[x] for x in AREAS)
+
+
+# ---- append
+
+def held(r, a, i):
+    """Item i as it was given; its fields are tested first."""
+    kind = r["kind"]
+    if kind in FIXED:
+        size, order = FIXED[kind]
+        raw = bytes(a["items"][i * size:i * size + size])
+        return int(raw != b"\0") if kind == 0 else int.from_bytes(raw, order, signed=True)
+    if kind == CHAR:
+        if a["lens"][i] > r["width"]:
+            raise Nine
+        return bytes(a["items"][i * r["width"]:i * r["width"] + a["lens"][i]])
+    start = a["ends"][i - 1] if i else 0
+    end = a["ends"][i]
+    if end < start or end > r["bytes"] or i + 1 == stored(r) and end != r["bytes"]:
+        raise Nine
+    return bytes(a["items"][start:end])
+
+
+def entry_of(r, a, row):
+    """The first entry that equals the row, or the number of entries."""
+    i = 0
+    while i < r["entries"] and held(r, a, i) != row:
+        i += 1
+    return i
+
+
+def fits(r, row):
+    if row is None or r["kind"] == BLOB:
+        return True
+    if r["kind"] == CHAR:
+        return len(row) <= r["width"]
+    if r["kind"] == 0:
+        return row in (0, 1)
+    half = 2 ** (8 * width_of(r) - 1)
+    return -half <= row < half
+
+
+def row_of(r, present, value, data):
+    return None if not present else value if r["kind"] in FIXED else bytes(data)
+
+
+def grown(r, row, size, new, joins):
+    """The record with the row counted in."""
+    s = dict(r)
+    s["rows"] += 1
+    if new:
+        s["bytes"] += size
+        if r["encoding"] == 4:
+            s["entries"] += 1
+    if r["encoding"] >= 2:
+        s["null"] = int(row is None)
+        if joins:
+            s["last"] += 1
+            s["counts"] += len(spell(s["last"])) - len(spell(r["last"]))
+        else:
+            s["runs"] += 1
+            s["last"] = 1
+            s["counts"] += 1
+    return s
+
+
+def append(r, a, lent, present, value, data, find=entry_of):
+    """The number and the record; where it is 0 the areas are changed."""
+    if record_wrong(r) or too_short(r, lent):
+        return 9, r
+    row = row_of(r, present, value, data)
+    e, runs = r["encoding"], r["runs"]
+    open_run = runs > 0 and r["last"] < MOST_RUN
+    new, joins, key = True, False, 0
+    try:
+        if e in (2, 3):
+            if runs:
+                before = held(r, a, runs - 1)
+                if r["null"]:
+                    before = None
+                joins = open_run and (row is None) == (before is None) and row == before
+            new = not joins
+        if e == 4:
+            if row is None:
+                new, key = False, NULL_KEY
+            else:
+                i = find(r, a, row)
+                new, key = i == r["entries"], NULL_KEY + 1 + i
+            joins = open_run and a["keys"][runs - 1] == key
+    except Nine:
+        return 9, r
+    if not fits(r, row):
+        return 2, r
+    i, item = stored(r), model.item(r["kind"], r["width"], row)
+    s = grown(r, row, len(item), new, joins)
+    if past(s):
+        return 3, r
+    if too_short(s, lent):
+        return 4, r
+    if new:
+        a["items"][r["bytes"]:r["bytes"] + len(item)] = item
+        if r["kind"] == BLOB:
+            a["ends"][i] = s["bytes"]
+        if r["kind"] == CHAR:
+            a["lens"][i] = len(row or b"")
+        if e in (1, 3):
+            byte = 0 if i % 8 == 0 else a["flags"][i // 8]
+            bit = 1 << i % 8
+            a["flags"][i // 8] = byte & ~bit | (bit if row is not None else 0)
+    if e >= 2:
+        a["counts"][s["runs"] - 1] = s["last"]
+        if e == 4 and not joins:
+            a["keys"][runs] = key
+    return 0, s
+
+
+# ---- finish
+
+def block(r, a):
+    e, n, runs = r["encoding"], stored(r), r["runs"]
+    inner = bytes(a["items"][:r["bytes"]])
+    if r["kind"] == BLOB:
+        inner = b"".join(x.to_bytes(4, "little") for x in a["ends"][:n]) + inner
+    if e in (1, 3):
+        size = (n + 7) // 8
+        bitmap = bytearray(a["flags"][:size])
+        if n % 8:
+            bitmap[-1] &= (1 << n % 8) - 1
+        inner += bytes(bitmap) + size.to_bytes(4, "little")
+    if e < 2:
+        return inner
+    counts = b"".join(spell(x) for x in a["counts"][:runs])
+    head = runs.to_bytes(4, "little") + len(counts).to_bytes(4, "little") + counts
+    if e < 4:
+        return head + inner if runs else b""
+    keys = head + b"".join(x.to_bytes(4, "little", signed=True) for x in a["keys"][:runs]) if runs else b""
+    return len(keys).to_bytes(8, "big") + n.to_bytes(4, "big") + keys + inner
+
+
+def finish(r, a, lent, room):
+    """The number and the block, for a room of so many bytes."""
+    if record_wrong(r) or too_short(r, lent):
+        return 9, b""
+    b = block(r, a)
+    return (4, b"") if room < len(b) else (0, b)
+
+
+# ---- sizes
+
+def estimate(r):
+    if record_wrong(r):
+        return 9, 0
+    e = r["encoding"]
+    inner = plain_bytes(r) + ((stored(r) + 7) // 8 if e in (1, 3) else 0)
+    if e < 2:
+        return 0, inner
+    if e < 4:
+        return 0, inner + 4 + 2 * r["runs"]
+    return 0, 8 + (4 * r["runs"] + 4 + 2 * r["runs"]) + inner
+
+
+def with_next(r, present, size):
+    """What should_finish holds against the target."""
+    more = (size + 4 if present else 4) if r["kind"] == BLOB else width_of(r)
+    return plain_bytes(r) + more + (1 if r["encoding"] in (1, 3) else 0)
+
+
+def should_finish(r, present, size):
+    if record_wrong(r):
+        return 9, 0
+    full = r["bytes"] != 0 and with_next(r, present, size) > r["target"]
+    if r["encoding"] == 4:
+        full = full or 4 * r["runs"] != 0 and 4 * r["runs"] + 4 > 0
+    return 0, int(full)
