@@ -7,7 +7,7 @@ use idzulgar::{Column, Encoding, Kind, Value};
 
 use crate::model::{self, Chance};
 use crate::reading::rows_of;
-use crate::{best, by_hand, count_second, counted, text, COUNT_ROWS, NAMES};
+use crate::{best, by_hand, count_second, counted, counted_in, text, COUNT_ROWS, NAMES};
 
 const ROUNDS: usize = 7;
 
@@ -229,7 +229,7 @@ pub fn times() {
         }
     }
 
-    println!("\n| append alone, 20,000 rows | port, ns | by hand, ns | by hand / port |\n|---|---|---|---|");
+    println!("\n| one append with the loop around it, 20,000 rows | port, ns | by hand, ns | by hand / port |\n|---|---|---|---|");
     for name in NAMES {
         let mut case = Case::named(name, COUNT_ROWS, 200);
         let record = case.create();
@@ -254,7 +254,9 @@ pub fn times() {
         }
     }
 
-    println!("\n| append to a dictionary, random entries | entries | port, ns | by hand, ns | original, ns |\n|---|---|---|---|---|");
+    println!(
+        "\n| append to a dictionary, random entries | entries | port, ns | by hand, ns | original, ns |\n|---|---|---|---|---|"
+    );
     for (name, kind) in LOOKUPS {
         for entries in [16, 256, 4_096, 65_536] {
             let time = |side| {
@@ -298,14 +300,25 @@ pub fn instructions() {
         }
     }
 
-    println!("\n| append alone, 20,000 rows | port, instructions | by hand | by hand / port | original | original / port |\n|---|---|---|---|---|---|");
+    println!("\n| one append, 20,000 rows | port, instructions | by hand | by hand / port |\n|---|---|---|---|");
+    for name in NAMES {
+        // the port appends all rows three times in that run, the call by hand twice
+        let each =
+            |function, side, times| counted_in(function, "building", &["append", name, side, &rows]) / (times * COUNT_ROWS) as f64;
+        let (port, hand) = (each("idz_append", "port", 3), each("hand_append", "by hand", 2));
+        println!("| {name} | {port:.1} | {hand:.1} | {:.2} |", hand / port);
+    }
+
+    println!("\n| one append with the loop around it | port, instructions | by hand | by hand / port | original | original / port |\n|---|---|---|---|---|---|");
     for name in NAMES {
         let each = |side| row(&["append", name, side, &rows], COUNT_ROWS);
         let (port, hand, original) = (each("port"), each("by hand"), each("original"));
         println!("| {name} | {port:.1} | {hand:.1} | {:.2} | {original:.1} | {:.2} |", hand / port, original / port);
     }
 
-    println!("\n| lookup over {LOOKUP_ENTRIES} entries, instructions an entry | port | by hand | port / by hand |\n|---|---|---|---|");
+    println!(
+        "\n| lookup over {LOOKUP_ENTRIES} entries, instructions an entry | port | by hand | port / by hand |\n|---|---|---|---|"
+    );
     for (name, _) in LOOKUPS {
         let each = |side| {
             let all = counted("building", &["lookup", name, side, "last"]) - counted("building", &["lookup", name, side, "first"]);
@@ -317,13 +330,17 @@ pub fn instructions() {
 
     println!("\n| growth, build | rows | port, instructions a row | original, instructions a row |\n|---|---|---|---|");
     for name in NAMES {
-        for rows in [1_000, 10_000, 100_000, 1_000_000] {
+        // a million rows of a dictionary take callgrind minutes
+        let most = if name == "blob dictionary" { 100_000 } else { 1_000_000 };
+        for rows in [1_000, 10_000, 100_000, 1_000_000].into_iter().filter(|rows| *rows <= most) {
             let each = |side| row(&["build", name, side, &rows.to_string(), "plain"], rows);
             println!("| {name} | {rows} | {:.1} | {:.1} |", each("port"), each("original"));
         }
     }
 
-    println!("\n| append to a dictionary, random entries | entries | port, instructions | by hand | original |\n|---|---|---|---|---|");
+    println!(
+        "\n| append to a dictionary, random entries | entries | port, instructions | by hand | original |\n|---|---|---|---|---|"
+    );
     for (name, _) in LOOKUPS {
         for entries in [16, 256, 4_096, 65_536] {
             let each = |side| row(&["entries", name, side, &entries.to_string()], 400);

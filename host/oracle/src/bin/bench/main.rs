@@ -52,9 +52,15 @@ fn count_second(mut run: impl FnMut()) {
 
 /// What callgrind counts of this program with some arguments.
 fn counted(part: &str, words: &[&str]) -> f64 {
+    counted_in("counted_part", part, words)
+}
+
+/// What callgrind counts of it inside a function.
+fn counted_in(function: &str, part: &str, words: &[&str]) -> f64 {
     let me = std::env::current_exe().expect("this program has a path");
     let output = Command::new("valgrind")
-        .args(["--tool=callgrind", "--toggle-collect=counted_part", "--callgrind-out-file=/dev/null"])
+        .args(["--tool=callgrind", "--callgrind-out-file=/dev/null"])
+        .arg(format!("--toggle-collect={function}"))
         .arg(me)
         .args(["count", part])
         .args(words)
