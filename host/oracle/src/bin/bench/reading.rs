@@ -1,24 +1,45 @@
-//! Reads the same blocks by the port and by the original, in one run, and prints tables for docs/BENCHMARKS.md.
-//!
-//!     bench                       times: nanoseconds a row, best of several rounds, and ratios
-//!     bench instructions          instructions a row by callgrind: the same whatever else the machine does
-//!
-//! Each side reads into memory of its own kind: the port into lent areas, made once; the original into an array builder with
-//! room for the batch, made for each batch, as it has no way to empty one.
+//! Reading. Each side reads into memory of its own kind: the port into lent areas, made once; the original into an array builder
+//! with room for the batch, made for each batch, as it has no way to empty one.
 use std::hint::black_box;
-use std::process::Command;
 use std::time::Instant;
 
 use bytes::Bytes;
 use idzulgar::calls::{self, ReaderRecord};
 use idzulgar::{Column, Encoding, Kind, Value};
-use model::Chance;
 use oracle::padded;
 
-#[path = "../../../idzulgar/tests/model/mod.rs"]
-mod model;
+use crate::model::Chance;
+use crate::{best, count_second, counted, text, COUNT_ROWS, NAMES};
 
 const ROUNDS: usize = 15;
+
+/// The rows of a case, at their number; dictionaries with a number of entries.
+pub fn rows_of(name: &str, rows: usize, entries: u64) -> (Column, Vec<Value>) {
+    let mut chance = Chance::new(7);
+    let plain = |kind| Column::new(kind, Encoding::Plain);
+    match name {
+        "i64 plain" => (plain(Kind::I64), (0..rows).map(|_| Value::Int(chance.number() as i64)).collect()),
+        "i32 nullable" => {
+            let row = |chance: &mut Chance| if chance.one_in(10) { Value::Null } else { Value::Int(chance.number() as i32 as i64) };
+            (Column::new(Kind::I32, Encoding::Nullable), (0..rows).map(|_| row(&mut chance)).collect())
+        }
+        "i32 run-length" => {
+            (Column::new(Kind::I32, Encoding::RunLength), (0..rows).map(|place| Value::Int((place / 20) as i64)).collect())
+        }
+        "blob dictionary" => {
+            (Column::new(Kind::Blob, Encoding::Dictionary), (0..rows).map(|_| text(chance.below(entries), 9)).collect())
+        }
+        "char 16 plain" => {
+            let row = |chance: &mut Chance| text(chance.below(100_000), 5 + chance.below(12) as usize);
+            (plain(Kind::Char(16)), (0..rows).map(|_| row(&mut chance)).collect())
+        }
+        "blob plain" => {
+            let row = |chance: &mut Chance| text(chance.below(100_000), 5 + chance.below(6) as usize);
+            (plain(Kind::Blob), (0..rows).map(|_| row(&mut chance)).collect())
+        }
+        _ => panic!("no case {name}"),
+    }
+}
 
 /// A block and what it takes to read it.
 struct Case {
@@ -30,12 +51,6 @@ struct Case {
     flags: Vec<u8>,
     ends: Vec<u32>,
     bytes: Vec<u8>,
-}
-
-fn text(number: u64, len: usize) -> Value {
-    let mut bytes = number.to_string().into_bytes();
-    bytes.resize(len, b'x');
-    Value::Bytes(bytes)
 }
 
 impl Case {
@@ -57,35 +72,9 @@ impl Case {
         }
     }
 
-    /// The five cases of the design, at a number of rows; dictionaries with a number of entries.
     fn named(name: &str, rows: usize, entries: u64) -> Case {
-        let mut chance = Chance::new(7);
-        let plain = |kind| Column::new(kind, Encoding::Plain);
-        match name {
-            "i64 plain" => Case::new(name, plain(Kind::I64), (0..rows).map(|_| Value::Int(chance.number() as i64)).collect()),
-            "i32 nullable" => {
-                let row =
-                    |chance: &mut Chance| if chance.one_in(10) { Value::Null } else { Value::Int(chance.number() as i32 as i64) };
-                Case::new(name, Column::new(Kind::I32, Encoding::Nullable), (0..rows).map(|_| row(&mut chance)).collect())
-            }
-            "i32 run-length" => {
-                let list = (0..rows).map(|place| Value::Int((place / 20) as i64)).collect();
-                Case::new(name, Column::new(Kind::I32, Encoding::RunLength), list)
-            }
-            "blob dictionary" => {
-                let list = (0..rows).map(|_| text(chance.below(entries), 9)).collect();
-                Case::new(name, Column::new(Kind::Blob, Encoding::Dictionary), list)
-            }
-            "char 16 plain" => {
-                let list = (0..rows).map(|_| text(chance.below(100_000), 5 + chance.below(12) as usize)).collect();
-                Case::new(name, plain(Kind::Char(16)), list)
-            }
-            "blob plain" => {
-                let list = (0..rows).map(|_| text(chance.below(100_000), 5 + chance.below(6) as usize)).collect();
-                Case::new(name, plain(Kind::Blob), list)
-            }
-            _ => panic!("no case {name}"),
-        }
+        let (column, list) = rows_of(name, rows, entries);
+        Case::new(name, column, list)
     }
 
     fn open(&self) -> ReaderRecord {
@@ -136,17 +125,6 @@ impl Case {
     }
 }
 
-/// The best time of some rounds, in nanoseconds.
-fn best(mut run: impl FnMut()) -> f64 {
-    let mut least = f64::MAX;
-    for _ in 0..ROUNDS {
-        let start = Instant::now();
-        run();
-        least = least.min(start.elapsed().as_nanos() as f64);
-    }
-    least
-}
-
 /// Nanoseconds a row of both sides, their rounds by turns.
 fn both(case: &mut Case, size: usize) -> (f64, f64) {
     let rows = case.rows as f64;
@@ -162,9 +140,7 @@ fn both(case: &mut Case, size: usize) -> (f64, f64) {
     (port, original)
 }
 
-const NAMES: [&str; 5] = ["i64 plain", "i32 nullable", "i32 run-length", "blob dictionary", "char 16 plain"];
-
-fn times() {
+pub fn times() {
     const ROWS: usize = 1_000_000;
     println!("| read, 1,000,000 rows, with opening | port, ns a row | original, ns a row | original / port |");
     println!("|---|---|---|---|");
@@ -181,9 +157,9 @@ fn times() {
         let mut case = Case::named("i64 plain", rows, 0);
         let (mut port, mut bare, mut flagged) = (f64::MAX, f64::MAX, f64::MAX);
         for _ in 0..4 {
-            port = port.min(best(|| _ = black_box(case.port(rows))) / rows as f64);
-            bare = bare.min(best(|| _ = black_box(case.by_hand(false))) / rows as f64);
-            flagged = flagged.min(best(|| _ = black_box(case.by_hand(true))) / rows as f64);
+            port = port.min(best(ROUNDS, || _ = black_box(case.port(rows))) / rows as f64);
+            bare = bare.min(best(ROUNDS, || _ = black_box(case.by_hand(false))) / rows as f64);
+            flagged = flagged.min(best(ROUNDS, || _ = black_box(case.by_hand(true))) / rows as f64);
         }
         println!("| the port: values and flags | {rows} | {port:.2} | |");
         println!("| a plain loop over from_le_bytes, values and flags | {rows} | {flagged:.2} | {:.2} |", flagged / port);
@@ -193,8 +169,8 @@ fn times() {
     println!("\n| opening, 1,000,000 rows | block, bytes | opening, microseconds | a sum over the bytes, microseconds |\n|---|---|---|---|");
     for name in ["i64 plain", "i32 nullable", "i32 run-length", "blob dictionary", "char 16 plain", "blob plain"] {
         let case = Case::named(name, ROWS, 200);
-        let open = best(|| _ = black_box(case.open())) / 1000.0;
-        let pass = best(|| _ = black_box(case.block.iter().map(|byte| *byte as u64).sum::<u64>())) / 1000.0;
+        let open = best(ROUNDS, || _ = black_box(case.open())) / 1000.0;
+        let pass = best(ROUNDS, || _ = black_box(case.block.iter().map(|byte| *byte as u64).sum::<u64>())) / 1000.0;
         println!("| {name} | {} | {open:.2} | {pass:.2} |", case.block.len());
     }
 
@@ -219,56 +195,25 @@ fn times() {
     block.extend([0xFF, 0xFF, 0x03]);
     block.extend((0..65_537).map(|run| (run % 2) as u8));
     let reader = calls::open(0, 2, 0, 281_474_976_710_655, &block).reader;
-    let all = best(|| assert_eq!(calls::skip(reader, &block, 281_474_976_710_655).number, 0)) / 1000.0;
+    let all = best(ROUNDS, || assert_eq!(calls::skip(reader, &block, 281_474_976_710_655).number, 0)) / 1000.0;
     println!("\nskip over 281,474,976,710,655 rows in 65,537 runs: {all:.1} microseconds (the original can't read these counts)");
 }
 
-/// What callgrind counts of this program with some arguments.
-fn counted(name: &str, side: &str, size: usize, passes: usize) -> u64 {
-    let me = std::env::current_exe().expect("this program has a path");
-    let output = Command::new("valgrind")
-        .args(["--tool=callgrind", "--callgrind-out-file=/dev/null"])
-        .arg(me)
-        .args(["count", name, side, &size.to_string(), &passes.to_string()])
-        .output()
-        .expect("valgrind runs");
-    let said = String::from_utf8_lossy(&output.stderr).into_owned();
-    let line = said.lines().find(|line| line.contains("Collected :")).unwrap_or_else(|| panic!("valgrind said: {said}"));
-    line.split_whitespace().last().and_then(|word| word.parse().ok()).expect("a number of instructions")
-}
-
-const COUNT_ROWS: usize = 20_000;
-
-fn instructions() {
+pub fn instructions() {
     println!("| read, 20,000 rows, with opening | port, instructions a row | original, instructions a row | original / port |");
     println!("|---|---|---|---|");
     for name in NAMES {
         for (how, size) in [("whole", COUNT_ROWS), ("by 1,024", 1024)] {
-            let each = |side| {
-                let (one, three) = (counted(name, side, size, 1), counted(name, side, size, 3));
-                (three - one) as f64 / (2 * COUNT_ROWS) as f64
-            };
+            let each = |side| counted("reading", &[name, side, &size.to_string()]) / COUNT_ROWS as f64;
             let (port, original) = (each("port"), each("original"));
             println!("| {name}, {how} | {port:.1} | {original:.1} | {:.1} |", original / port);
         }
     }
 }
 
-fn count(words: &[String]) {
-    let (name, side) = (&words[0], &words[1]);
-    let (size, passes): (usize, usize) = (words[2].parse().expect("a size"), words[3].parse().expect("a number of passes"));
+pub fn count(words: &[&str]) {
+    let [name, side, size] = words else { panic!("a case, a side and a size") };
+    let size = size.parse().expect("a size");
     let mut case = Case::named(name, COUNT_ROWS, 200);
-    for _ in 0..passes {
-        black_box(if side == "port" { case.port(size) } else { case.original(size) });
-    }
-}
-
-fn main() {
-    let words: Vec<String> = std::env::args().skip(1).collect();
-    match words.first().map(String::as_str) {
-        None => times(),
-        Some("instructions") => instructions(),
-        Some("count") => count(&words[1..]),
-        Some(word) => panic!("no part {word}"),
-    }
+    count_second(|| _ = black_box(if *side == "port" { case.port(size) } else { case.original(size) }));
 }

@@ -1,0 +1,94 @@
+//! Reads and builds the same blocks by the port and by the original, in one run, and prints tables for docs/BENCHMARKS.md.
+//!
+//!     bench [reading|building]                  times: nanoseconds a row, best of several rounds, and ratios
+//!     bench instructions [reading|building]     instructions a row by callgrind: the same whatever else the machine does
+use std::hint::black_box;
+use std::process::Command;
+use std::time::Instant;
+
+use idzulgar::Value;
+
+mod building;
+mod by_hand;
+#[path = "../../../../idzulgar/tests/model/mod.rs"]
+mod model;
+mod reading;
+
+/// The five cases of the design.
+const NAMES: [&str; 5] = ["i64 plain", "i32 nullable", "i32 run-length", "blob dictionary", "char 16 plain"];
+
+/// The rows that instructions are counted of.
+const COUNT_ROWS: usize = 20_000;
+
+fn text(number: u64, len: usize) -> Value {
+    let mut bytes = number.to_string().into_bytes();
+    bytes.resize(len, b'x');
+    Value::Bytes(bytes)
+}
+
+/// The best time of some rounds, in nanoseconds.
+fn best(rounds: usize, mut run: impl FnMut()) -> f64 {
+    let mut least = f64::MAX;
+    for _ in 0..rounds {
+        let start = Instant::now();
+        run();
+        least = least.min(start.elapsed().as_nanos() as f64);
+    }
+    least
+}
+
+/// What callgrind counts: no more of the program.
+#[no_mangle]
+#[inline(never)]
+fn counted_part(run: &mut dyn FnMut()) {
+    run();
+}
+
+/// Runs something twice, and has callgrind count the second time.
+fn count_second(mut run: impl FnMut()) {
+    run();
+    counted_part(black_box(&mut run));
+}
+
+/// What callgrind counts of this program with some arguments.
+fn counted(part: &str, words: &[&str]) -> f64 {
+    counted_in("counted_part", part, words)
+}
+
+/// What callgrind counts of it inside a function.
+fn counted_in(function: &str, part: &str, words: &[&str]) -> f64 {
+    let me = std::env::current_exe().expect("this program has a path");
+    let output = Command::new("valgrind")
+        .args(["--tool=callgrind", "--callgrind-out-file=/dev/null"])
+        .arg(format!("--toggle-collect={function}"))
+        .arg(me)
+        .args(["count", part])
+        .args(words)
+        .output()
+        .expect("valgrind runs");
+    let said = String::from_utf8_lossy(&output.stderr).into_owned();
+    let line = said.lines().find(|line| line.contains("Collected :")).unwrap_or_else(|| panic!("valgrind said: {said}"));
+    line.split_whitespace().last().and_then(|word| word.parse().ok()).expect("a number of instructions")
+}
+
+fn main() {
+    let words: Vec<String> = std::env::args().skip(1).collect();
+    let words: Vec<&str> = words.iter().map(String::as_str).collect();
+    match words[..] {
+        [] => {
+            reading::times();
+            building::times();
+        }
+        ["reading"] => reading::times(),
+        ["building"] => building::times(),
+        ["instructions"] => {
+            reading::instructions();
+            building::instructions();
+        }
+        ["instructions", "reading"] => reading::instructions(),
+        ["instructions", "building"] => building::instructions(),
+        ["count", "reading", ref words @ ..] => reading::count(words),
+        ["count", "building", ref words @ ..] => building::count(words),
+        _ => panic!("bench [instructions] [reading|building]"),
+    }
+}
