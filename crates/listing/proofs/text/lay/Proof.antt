@@ -1,0 +1,25 @@
+use borrow.Author.Needs.{needs}
+use Rattle.listing.proofs.text.lay.Statement.{statement}
+use Rattle.listing.proofs.text.lay.Tie as tie
+use Rattle.listing.proofs.text.lay.Reads as reads
+use Rattle.listing.proofs.text.lay.Lts as lts
+use Rattle.area.proofs.copy.Reads as copy-reads
+
+-- src/text.rt:37:9
+returns : tie.Need-returns
+returns c = ?
+
+-- src/text.rt:39:5
+copy-requires : tie.Need-copy-requires
+copy-requires c κs = search needs
+
+-- src/text.rt:31:1
+same-length : tie.Need-same-length
+same-length c = search needs
+
+-- src/text.rt:31:1
+returns-2 : tie.Need-returns-2
+returns-2 c = ?
+
+pub lay-spec : {M : Type 1} → statement M
+lay-spec = tie.close (tie.spec returns copy-requires same-length returns-2)

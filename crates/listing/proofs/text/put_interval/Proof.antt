@@ -1,0 +1,41 @@
+use borrow.Author.Needs.{needs}
+use Rattle.listing.proofs.text.put_interval.Statement.{statement}
+use Rattle.listing.proofs.text.put_interval.Tie as tie
+use Rattle.listing.proofs.text.put_interval.Reads as reads
+use Rattle.listing.proofs.text.put_interval.Lts as lts
+use Rattle.listing.proofs.text.put_half.Reads as put-half-reads
+
+-- src/text.rt:89:9
+put-half-requires : tie.Need-put-half-requires
+put-half-requires c κs = search needs
+
+-- src/text.rt:90:5
+slice-write-out : tie.Need-slice-write-out
+slice-write-out c = search needs
+
+-- src/text.rt:91:41
+add-put-half : tie.Need-add-put-half
+add-put-half c = search needs
+
+-- src/text.rt:91:5
+put-half-requires-2 : tie.Need-put-half-requires-2
+put-half-requires-2 c κs = ?
+
+-- src/text.rt:84:1
+same-length : tie.Need-same-length
+same-length c = ?
+
+-- src/text.rt:84:1
+returns : tie.Need-returns
+returns c = ?
+
+pub put-interval-spec : {M : Type 1} → statement M
+put-interval-spec =
+    tie.close
+    (tie.spec
+    put-half-requires
+    slice-write-out
+    add-put-half
+    put-half-requires-2
+    same-length
+    returns)

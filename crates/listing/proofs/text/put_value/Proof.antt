@@ -1,0 +1,54 @@
+use borrow.Author.Needs.{needs}
+use Rattle.listing.proofs.text.put_value.Statement.{statement}
+use Rattle.listing.proofs.text.put_value.Tie as tie
+use Rattle.listing.proofs.text.put_value.Reads as reads
+use Rattle.listing.proofs.text.put_value.Lts as lts
+use Rattle.encode.proofs.bits_of.Reads as bits-of-reads
+use Rattle.listing.proofs.text.is_interval.Reads as is-interval-reads
+use Rattle.listing.proofs.text.put_interval.Reads as put-interval-reads
+use Rattle.listing.proofs.text.put_number.Reads as put-number-reads
+
+-- src/text.rt:76:9
+bits-of-requires : tie.Need-bits-of-requires
+bits-of-requires c κs = search needs
+
+-- src/text.rt:77:8
+is-interval-requires : tie.Need-is-interval-requires
+is-interval-requires c κs = search needs
+
+-- src/text.rt:78:9
+put-interval-requires : tie.Need-put-interval-requires
+put-interval-requires c κs = search needs
+
+-- src/text.rt:78:9
+same-length : tie.Need-same-length
+same-length c = search needs
+
+-- src/text.rt:78:9
+returns : tie.Need-returns
+returns c = ?
+
+-- src/text.rt:80:5
+put-number-requires : tie.Need-put-number-requires
+put-number-requires c κs = search needs
+
+-- src/text.rt:71:1
+same-length-2 : tie.Need-same-length-2
+same-length-2 c = search needs
+
+-- src/text.rt:71:1
+returns-2 : tie.Need-returns-2
+returns-2 c = ?
+
+pub put-value-spec : {M : Type 1} → statement M
+put-value-spec =
+    tie.close
+    (tie.spec
+    bits-of-requires
+    is-interval-requires
+    put-interval-requires
+    same-length
+    returns
+    put-number-requires
+    same-length-2
+    returns-2)

@@ -1,0 +1,47 @@
+use borrow.Author.Needs.{needs}
+use Rattle.listing.proofs.text.value_text.Statement.{statement}
+use Rattle.listing.proofs.text.value_text.Tie as tie
+use Rattle.listing.proofs.text.value_text.Reads as reads
+use Rattle.listing.proofs.text.value_text.Lts as lts
+use Rattle.listing.proofs.text.lay.Reads as lay-reads
+use Rattle.listing.proofs.text.put_value.Reads as put-value-reads
+
+-- src/text.rt:51:29
+slice-aggregate-put-value : tie.Need-slice-aggregate-put-value
+slice-aggregate-put-value c = search needs
+
+-- src/text.rt:51:9
+put-value-requires : tie.Need-put-value-requires
+put-value-requires c κs = search needs
+
+-- src/text.rt:52:9
+array-share-prefix-room : tie.Need-array-share-prefix-room
+array-share-prefix-room c = search needs
+
+-- src/text.rt:52:9
+slice-aggregate-lay : tie.Need-slice-aggregate-lay
+slice-aggregate-lay c = ?
+
+-- src/text.rt:52:5
+lay-requires : tie.Need-lay-requires
+lay-requires c κs = search needs
+
+-- src/text.rt:46:1
+same-length : tie.Need-same-length
+same-length c = search needs
+
+-- src/text.rt:46:1
+returns : tie.Need-returns
+returns c = ?
+
+pub value-text-spec : {M : Type 1} → statement M
+value-text-spec =
+    tie.close
+    (tie.spec
+    slice-aggregate-put-value
+    put-value-requires
+    array-share-prefix-room
+    slice-aggregate-lay
+    lay-requires
+    same-length
+    returns)
