@@ -124,7 +124,7 @@ fn put_digits(n: u64, out: &mut [u8], at: usize) -> usize
 {
     let mut digits = [0u8; 20];
     let k = io::decimal(n, &mut digits);
-    area::copy(&digits, 0, k, out, at);
+    area::copy(&digits[..k], 0, k, out, at);
     at + k
 }
 

@@ -1,4 +1,6 @@
 use borrow.Author.Needs.{needs}
+use native.Mathlib.Omega.{arith}
+use Rattle.listing.proofs.Openings as laws
 use Rattle.listing.proofs.opening.open.Statement.{statement}
 use Rattle.listing.proofs.opening.open.Tie as tie
 use Rattle.listing.proofs.opening.open.Reads as reads
@@ -8,11 +10,11 @@ use Rattle.listing.proofs.opening.unpack.Reads as unpack-reads
 
 -- src/opening.rt:37:9
 returns : tie.Need-returns
-returns c = ?
+returns c = laws.input-short _ (omega arith)
 
 -- src/opening.rt:40:9
 returns-2 : tie.Need-returns-2
-returns-2 c = ?
+returns-2 c = laws.input-long _ (omega arith) (omega arith)
 
 -- src/opening.rt:43:9
 shared-slice-read-t6 : tie.Need-shared-slice-read-t6
@@ -68,7 +70,7 @@ open-by-requires c κs = search needs
 
 -- src/opening.rt:33:1
 returns-3 : tie.Need-returns-3
-returns-3 c = ?
+returns-3 c = let s = c .before .before .before .before .before .before .before .before .before .before .before .before .before .before .args .input .now in laws.input-opened s (omega arith) (omega arith) (c .before .before .unpack .ensures) (c .open-by .ensures)
 
 pub open-spec : {M : Type 1} → statement M
 open-spec =

@@ -1,4 +1,6 @@
 use borrow.Author.Needs.{needs}
+use native.Mathlib.Omega.{arith}
+use borrow.Author.Tests.{lt-ltb, le-ltb}
 use Rattle.listing.proofs.text.glyph.Statement.{statement}
 use Rattle.listing.proofs.text.glyph.Tie as tie
 use Rattle.listing.proofs.text.glyph.Reads as reads
@@ -22,11 +24,11 @@ add-result-2 c = search needs
 
 -- src/text.rt:164:1
 returns : tie.Need-returns
-returns c = ?
+returns c = rw (lt-ltb (c .before .args .d) 10 (omega arith))
 
 -- src/text.rt:164:1
 returns-2 : tie.Need-returns-2
-returns-2 c = ?
+returns-2 c = rw (le-ltb (c .before .args .d) 10 (omega arith))
 
 pub glyph-spec : {M : Type 1} → statement M
 glyph-spec =

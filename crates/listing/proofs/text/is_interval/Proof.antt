@@ -1,4 +1,6 @@
 use borrow.Author.Needs.{needs}
+use mathlib.Core.Path.{ap, sym}
+use Rattle.listing.specs.Text.{isInterval}
 use Rattle.listing.proofs.text.is_interval.Statement.{statement}
 use Rattle.listing.proofs.text.is_interval.Tie as tie
 use Rattle.listing.proofs.text.is_interval.Reads as reads
@@ -38,35 +40,43 @@ enum-told-8 c = search needs
 
 -- src/text.rt:55:1
 returns : tie.Need-returns
-returns c = ?
+unfolding isInterval
+returns c = ap isInterval (sym (c .enum-told .given .1))
 
 -- src/text.rt:55:1
 returns-2 : tie.Need-returns-2
-returns-2 c = ?
+unfolding isInterval
+returns-2 c = ap isInterval (sym (c .enum-told2 .given .1))
 
 -- src/text.rt:55:1
 returns-3 : tie.Need-returns-3
-returns-3 c = ?
+unfolding isInterval
+returns-3 c = ap isInterval (sym (c .enum-told3 .given .1))
 
 -- src/text.rt:55:1
 returns-4 : tie.Need-returns-4
-returns-4 c = ?
+unfolding isInterval
+returns-4 c = ap isInterval (sym (c .enum-told4 .given .1))
 
 -- src/text.rt:55:1
 returns-5 : tie.Need-returns-5
-returns-5 c = ?
+unfolding isInterval
+returns-5 c = ap isInterval (sym (c .enum-told5 .given .1))
 
 -- src/text.rt:55:1
 returns-6 : tie.Need-returns-6
-returns-6 c = ?
+unfolding isInterval
+returns-6 c = ap isInterval (sym (c .enum-told6 .given .1))
 
 -- src/text.rt:55:1
 returns-7 : tie.Need-returns-7
-returns-7 c = ?
+unfolding isInterval
+returns-7 c = ap isInterval (sym (c .enum-told7 .given .1))
 
 -- src/text.rt:55:1
 returns-8 : tie.Need-returns-8
-returns-8 c = ?
+unfolding isInterval
+returns-8 c = ap isInterval (sym (c .enum-told8 .given .1))
 
 pub is-interval-spec : {M : Type 1} → statement M
 is-interval-spec =

@@ -1,4 +1,8 @@
 use borrow.Author.Needs.{needs}
+use native.Mathlib.Omega.{arith}
+use mathlib.Core.Path.{refl, ap, _∙_}
+use lib.Seq.{sets, take-length}
+use Rattle.listing.proofs.Laying as laws
 use Rattle.listing.proofs.text.lay.Statement.{statement}
 use Rattle.listing.proofs.text.lay.Tie as tie
 use Rattle.listing.proofs.text.lay.Reads as reads
@@ -7,7 +11,7 @@ use Rattle.area.proofs.copy.Reads as copy-reads
 
 -- src/text.rt:37:9
 returns : tie.Need-returns
-returns c = ?
+returns c = let a = c .before .before .before .args in laws.lays-nothing (a .text .now) (a .out .now) (omega arith)
 
 -- src/text.rt:39:5
 copy-requires : tie.Need-copy-requires
@@ -19,7 +23,7 @@ same-length c = search needs
 
 -- src/text.rt:31:1
 returns-2 : tie.Need-returns-2
-returns-2 c = ?
+returns-2 c = let a = c .before .before .before .before .before .before .before .args in laws.lays-whole (a .text .now) (a .out .now) (omega arith) refl (c .before .before .copy .ensures ∙ ap (sets (a .out .now) 0) (take-length (a .text .now)))
 
 pub lay-spec : {M : Type 1} → statement M
 lay-spec = tie.close (tie.spec returns copy-requires same-length returns-2)

@@ -1,4 +1,9 @@
 use borrow.Author.Needs.{needs}
+use native.Mathlib.Omega.{arith}
+use lib.ListN.{length, length-set}
+use mathlib.Core.Path.{ap, _∙_}
+use lib.Seq.{length-sets}
+use Rattle.listing.proofs.Numbers as laws
 use Rattle.listing.proofs.text.put_interval.Statement.{statement}
 use Rattle.listing.proofs.text.put_interval.Tie as tie
 use Rattle.listing.proofs.text.put_interval.Reads as reads
@@ -19,15 +24,15 @@ add-put-half c = search needs
 
 -- src/text.rt:91:5
 put-half-requires-2 : tie.Need-put-half-requires-2
-put-half-requires-2 c κs = ?
+put-half-requires-2 c κs = (omega arith, simp length-set (omega arith))
 
 -- src/text.rt:84:1
 same-length : tie.Need-same-length
-same-length c = ?
+same-length c = ap length (c .before .before .put-half2 .ensures .1) ∙ simp (length-sets, length-set) (ap length (c .before .before .before .before .before .before .put-half .ensures .1) ∙ simp length-sets)
 
 -- src/text.rt:84:1
 returns : tie.Need-returns
-returns c = ?
+returns c = let a = c .before .before .before .before .before .before .before .before .before .args in laws.put-both (a .bits) (a .at) (a .out .now) (c .before .before .before .before .before .before .put-half .ensures) (c .before .before .put-half2 .ensures)
 
 pub put-interval-spec : {M : Type 1} → statement M
 put-interval-spec =

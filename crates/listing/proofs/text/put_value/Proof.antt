@@ -1,4 +1,9 @@
 use borrow.Author.Needs.{needs}
+use mathlib.Core.Path.{sym, ap, _∙_}
+use mir.Syntax.{w64}
+use mir.Val.{ofZ}
+use mir.Facts.{toZ-ofZ}
+use Rattle.listing.proofs.Numbers as laws
 use Rattle.listing.proofs.text.put_value.Statement.{statement}
 use Rattle.listing.proofs.text.put_value.Tie as tie
 use Rattle.listing.proofs.text.put_value.Reads as reads
@@ -26,7 +31,7 @@ same-length c = search needs
 
 -- src/text.rt:78:9
 returns : tie.Need-returns
-returns c = ?
+returns c = let a = c .before .before .before .before .before .before .before .before .args in laws.put-interval (a .p) (a .v) (a .at) (a .out .now) (sym (c .before .before .before .before .before .is-interval .ensures) ∙ c .before .before .before .before .if1 .taken) (c .before .before .before .before .before .before .bits-of .ensures ∙ ap (ofZ w64) (toZ-ofZ (c .before .before .before .before .before .before .before .before .fits .v))) (c .before .before .put-interval .ensures)
 
 -- src/text.rt:80:5
 put-number-requires : tie.Need-put-number-requires
@@ -38,7 +43,7 @@ same-length-2 c = search needs
 
 -- src/text.rt:71:1
 returns-2 : tie.Need-returns-2
-returns-2 c = ?
+returns-2 c = let a = c .before .before .before .before .before .before .before .before .args in laws.put-other (a .p) (a .v) (a .at) (a .out .now) (sym (c .before .before .before .before .before .is-interval .ensures) ∙ c .before .before .before .before .if1 .left) (c .before .before .before .before .before .before .before .before .fits .v) (c .before .before .before .before .before .before .bits-of .ensures ∙ ap (ofZ w64) (toZ-ofZ (c .before .before .before .before .before .before .before .before .fits .v))) (c .before .before .put-number .ensures)
 
 pub put-value-spec : {M : Type 1} → statement M
 put-value-spec =

@@ -1,4 +1,12 @@
 use borrow.Author.Needs.{needs}
+use native.Mathlib.Omega.{arith}
+use mathlib.Core.Path.{sym}
+use lib.Seq.{length-take-le}
+use lib.ListN.{replicate}
+use mir.Syntax.{w64}
+use mir.Val.{ofZ, toZ}
+use mir.Facts.{toZ-ofZ}
+use Rattle.listing.proofs.Laying as laws
 use Rattle.listing.proofs.text.value_text.Statement.{statement}
 use Rattle.listing.proofs.text.value_text.Tie as tie
 use Rattle.listing.proofs.text.value_text.Reads as reads
@@ -20,7 +28,7 @@ array-share-prefix-room c = search needs
 
 -- src/text.rt:52:9
 slice-aggregate-lay : tie.Need-slice-aggregate-lay
-slice-aggregate-lay c = ?
+slice-aggregate-lay c = let f = c .before .before .put-value in sym (length-take-le (f .result) (f .last .1 .1 .0) (omega (arith, f .kept .1 .1 .0, f .ensures .0 .1)))
 
 -- src/text.rt:52:5
 lay-requires : tie.Need-lay-requires
@@ -32,7 +40,7 @@ same-length c = search needs
 
 -- src/text.rt:46:1
 returns : tie.Need-returns
-returns c = ?
+returns c = let a = c .before .before .before .before .before .before .before .before .before .args in let f = c .before .before .before .before .before .before .put-value in laws.lays-same (a .out .now) (laws.value-back (a .p) (toZ w64 (ofZ w64 (a .v))) (a .v) (replicate 43 0) (toZ-ofZ (c .before .before .before .before .before .before .before .before .before .fits .v)) (f .ensures .0 .0) (omega (arith, f .ensures .0 .1)) (f .ensures .1)) (c .before .before .lay .ensures)
 
 pub value-text-spec : {M : Type 1} → statement M
 value-text-spec =

@@ -1,0 +1,3 @@
+pub mod Openings
+pub mod Numbers
+pub mod Laying
