@@ -32,9 +32,10 @@ module _ (t out : List ℕ) where
 
   pub lays-whole : {n : ℕ} {out′ : List ℕ} → length t ≤ length out → n ≡ length t → out′ ≡ sets out 0 t → Lays t out (Text n) out′
   unfolding madeIn heldAfter
-  lays-whole h e q =
-      (rw (le-ltb (length out) (length t) h) (ap Text e),
-       rw (le-ltb (length out) (length t) h) (q ∙ over-sets t out 0 (omega (arith, zero-add (length t)))))
+  lays-whole h e q = (
+    rw (le-ltb (length out) (length t) h) (ap Text e),
+    rw (le-ltb (length out) (length t) h) (q ∙ over-sets t out 0 (omega (arith, zero-add (length t)))),
+  )
 
 -- a text by another name
 pub lays-same : (out : List ℕ) {s t : List ℕ} {r : Made} {out′ : List ℕ} → s ≡ t → Lays s out r out′ → Lays t out r out′

@@ -60,9 +60,9 @@ pub few-digits : (n k : ℕ) → Fewest 10 1 n k → n < 18446744073709551616 �
 few-digits n k w h =
     ⊎-elim
     (λ l.
-      let p : 10 ^ 20 ≤ 10 ^ (k - 1) = pow-le-pow-right (omega arith) {i = 20} {j = k - 1} (omega arith) in
-      let q : 10 ^ (k - 1) ≤ n = w .2 (omega arith) in
-      absurd (omega arith))
+    let p : 10 ^ 20 ≤ 10 ^ (k - 1) = pow-le-pow-right (omega arith) {i = 20} {j = k - 1} (omega arith) in
+    let q : 10 ^ (k - 1) ≤ n = w .2 (omega arith) in
+    absurd (omega arith))
     (λ g. g)
     (lt-or-ge 20 k)
 
@@ -107,9 +107,10 @@ unfolding intervalText
 put-both u at out {to} {r} {out₁} {out′} p q =
     let a : List ℕ = numberText (toZ w32 (u / 4294967296)) in
     let b : List ℕ = numberText (toZ w32 (u % 4294967296)) in
-    let l : length (a ++ (32 ∷ b)) ≡ length a + suc (length b) = length-append a (32 ∷ b) in
-    ((omega arith, omega arith),
-     q .1 ∙ rw (add-one to, p .1, p .0 .0) (sym (sets-append a (32 ∷ b) out at)))
+    let l : length (a ++ (32 ∷ b)) ≡ length a + suc (length b) = length-append a (32 ∷ b) in (
+      (omega arith, omega arith),
+      q .1 ∙ rw (add-one to, p .1, p .0 .0) (sym (sets-append a (32 ∷ b) out at)),
+    )
 
 -- ---- a value
 pub put-interval : (p : Primitive) (v : ℤ) (at : ℕ) (out : List ℕ) {r n : ℕ} {out′ : List ℕ} → isInterval p ≡ true → n ≡ ofZ w64 v

@@ -40,7 +40,14 @@ pub fn open(input: &[u8]) -> Opened
         return Opened::Refused(3);
     }
     let d = unpack([
-        input[0], input[1], input[2], input[3], input[4], input[5], input[6], input[7],
+        input[0],
+        input[1],
+        input[2],
+        input[3],
+        input[4],
+        input[5],
+        input[6],
+        input[7],
     ]);
     open_by(d, &input[8..])
 }

@@ -46,10 +46,13 @@ fn given(s: &[u8], at: usize, n: usize, i: usize) -> u8 {
     byte(s, past(at, i))
 }
 
-// The input at the start of the room.
-fn load(s: &[u8], at: usize, n: usize, room: &mut [u8]) {
+// An input of this length at the start of the room.
+fn load(s: &[u8], at: usize, n: usize, len: usize, room: &mut [u8]) {
     let mut i = 0;
     while i < room.len() {
+        if len <= i {
+            return;
+        }
         room[i] = given(s, at, n, i);
         i += 1;
     }
@@ -60,7 +63,7 @@ fn list(s: &[u8], at: usize, room: &mut [u8]) -> usize {
     let len = four(s, at);
     let n = two(s, past(at, 4));
     let from = past(at, 6);
-    load(s, from, n, room);
+    load(s, from, n, len, room);
     printing::print(printing::first(room, len));
     past(from, n)
 }

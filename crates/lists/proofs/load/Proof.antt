@@ -1,46 +1,46 @@
+-- `load` is safe and ends: the room keeps its length, and the measure is the part of it that is left. Assumes nothing.
+use borrow.Author.Needs.{needs}
+use Prim.Native.Nat.{_-_}
+use mathlib.Core.Path.{_≡_}
+use lib.ListN.{length}
 use Rattle.lists.proofs.load.Statement.{statement}
 use Rattle.lists.proofs.load.Tie as tie
-use Rattle.lists.proofs.load.Reads as reads
-use Rattle.lists.proofs.load.Lts as lts
-use Rattle.lists.proofs.given.Reads as given-reads
 
 abbrev Inv-loop : tie.InvT-loop
-Inv-loop s at n room₀ i₀ room i = ?
+Inv-loop s at n len room₀ i₀ room i = length room ≡ length room₀
 
 abbrev μ-loop : tie.MeasureT-loop
-μ-loop s at n room₀ i₀ room i = ?
+μ-loop s at n len room₀ i₀ room i = length room₀ - i
 
--- src/main.rt:52:5
 loop-holds : tie.Need-loop-holds Inv-loop μ-loop
-loop-holds c = ?
+loop-holds c = search needs
 
--- src/main.rt:53:19
-given-requires : tie.Need-given-requires Inv-loop μ-loop
-given-requires c κs = ?
-
--- src/main.rt:53:9
-slice-write-room : tie.Need-slice-write-room Inv-loop μ-loop
-slice-write-room c = ?
-
--- src/main.rt:54:9
-add-i : tie.Need-add-i Inv-loop μ-loop
-add-i c = ?
-
--- src/main.rt:52:5
-loop-less : tie.Need-loop-less Inv-loop μ-loop
-loop-less c = ?
-
--- src/main.rt:52:5
-loop-again : tie.Need-loop-again Inv-loop μ-loop
-loop-again c = ?
-
--- src/main.rt:50:1
 same-length : tie.Need-same-length Inv-loop μ-loop
-same-length c = ?
+same-length c = search needs
 
--- src/main.rt:50:1
 returns : tie.Need-returns Inv-loop μ-loop
-returns c = ?
+returns c = search needs
+
+given-requires : tie.Need-given-requires Inv-loop μ-loop
+given-requires c κs = search needs
+
+slice-write-room : tie.Need-slice-write-room Inv-loop μ-loop
+slice-write-room c = search needs
+
+add-i : tie.Need-add-i Inv-loop μ-loop
+add-i c = search needs
+
+loop-less : tie.Need-loop-less Inv-loop μ-loop
+loop-less c = search needs
+
+loop-again : tie.Need-loop-again Inv-loop μ-loop
+loop-again c = search needs
+
+same-length-2 : tie.Need-same-length-2 Inv-loop μ-loop
+same-length-2 c = search needs
+
+returns-2 : tie.Need-returns-2 Inv-loop μ-loop
+returns-2 c = search needs
 
 pub load-spec : {M : Type 1} → statement M
 load-spec =
@@ -49,10 +49,12 @@ load-spec =
     Inv-loop
     μ-loop
     loop-holds
+    same-length
+    returns
     given-requires
     slice-write-room
     add-i
     loop-less
     loop-again
-    same-length
-    returns)
+    same-length-2
+    returns-2)

@@ -1,12 +1,10 @@
+-- `say_each` is safe and ends: the rooms keep their lengths, and the measure is the rows that are left. Assumes nothing.
 use borrow.Author.Needs.{needs}
 use Prim.Native.Nat.{_-_}
 use mathlib.Core.Path.{_≡_}
 use lib.ListN.{length}
 use Rattle.printing.proofs.say_each.Statement.{statement}
 use Rattle.printing.proofs.say_each.Tie as tie
-use Rattle.printing.proofs.say_each.Reads as reads
-use Rattle.printing.proofs.say_each.Lts as lts
-use Rattle.printing.proofs.say_next.Reads as say-next-reads
 
 abbrev Inv-loop : tie.InvT-loop
 Inv-loop kind n block bytes₀ text₀ reader₀ i₀ bytes text reader i = (length bytes ≡ length bytes₀) × (length text ≡ length text₀)
@@ -14,35 +12,27 @@ Inv-loop kind n block bytes₀ text₀ reader₀ i₀ bytes text reader i = (len
 abbrev μ-loop : tie.MeasureT-loop
 μ-loop kind n block bytes₀ text₀ reader₀ i₀ bytes text reader i = n - i
 
--- src/lib.rt:85:5
 loop-holds : tie.Need-loop-holds Inv-loop μ-loop
 loop-holds c = search needs
 
--- src/lib.rt:86:9
 say-next-requires : tie.Need-say-next-requires Inv-loop μ-loop
 say-next-requires c κs = search needs
 
--- src/lib.rt:87:9
 add-i : tie.Need-add-i Inv-loop μ-loop
 add-i c = search needs
 
--- src/lib.rt:85:5
 loop-less : tie.Need-loop-less Inv-loop μ-loop
 loop-less c = search needs
 
--- src/lib.rt:85:5
 loop-again : tie.Need-loop-again Inv-loop μ-loop
 loop-again c = search needs
 
--- src/lib.rt:82:1
 same-length : tie.Need-same-length Inv-loop μ-loop
 same-length c = search needs
 
--- src/lib.rt:82:1
 same-length-2 : tie.Need-same-length-2 Inv-loop μ-loop
 same-length-2 c = search needs
 
--- src/lib.rt:82:1
 returns : tie.Need-returns Inv-loop μ-loop
 returns c = search needs
 

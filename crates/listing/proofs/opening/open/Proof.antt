@@ -1,76 +1,59 @@
+-- `open` meets its contract: each return by the law of the tests that led there. Assumes nothing.
 use borrow.Author.Needs.{needs}
 use native.Mathlib.Omega.{arith}
 use Rattle.listing.proofs.Openings as laws
 use Rattle.listing.proofs.opening.open.Statement.{statement}
 use Rattle.listing.proofs.opening.open.Tie as tie
-use Rattle.listing.proofs.opening.open.Reads as reads
-use Rattle.listing.proofs.opening.open.Lts as lts
-use Rattle.listing.proofs.opening.open_by.Reads as open-by-reads
-use Rattle.listing.proofs.opening.unpack.Reads as unpack-reads
 
--- src/opening.rt:37:9
 returns : tie.Need-returns
 returns c = laws.input-short _ (omega arith)
 
--- src/opening.rt:40:9
 returns-2 : tie.Need-returns-2
 returns-2 c = laws.input-long _ (omega arith) (omega arith)
 
--- src/opening.rt:43:9
 shared-slice-read-t6 : tie.Need-shared-slice-read-t6
 shared-slice-read-t6 c = search needs
 
--- src/opening.rt:43:19
 shared-slice-read-t8 : tie.Need-shared-slice-read-t8
 shared-slice-read-t8 c = search needs
 
--- src/opening.rt:43:29
 shared-slice-read-t10 : tie.Need-shared-slice-read-t10
 shared-slice-read-t10 c = search needs
 
--- src/opening.rt:43:39
 shared-slice-read-t12 : tie.Need-shared-slice-read-t12
 shared-slice-read-t12 c = search needs
 
--- src/opening.rt:43:49
 shared-slice-read-t14 : tie.Need-shared-slice-read-t14
 shared-slice-read-t14 c = search needs
 
--- src/opening.rt:43:59
 shared-slice-read-t16 : tie.Need-shared-slice-read-t16
 shared-slice-read-t16 c = search needs
 
--- src/opening.rt:43:69
 shared-slice-read-t18 : tie.Need-shared-slice-read-t18
 shared-slice-read-t18 c = search needs
 
--- src/opening.rt:43:79
 shared-slice-read-t20 : tie.Need-shared-slice-read-t20
 shared-slice-read-t20 c = search needs
 
--- src/opening.rt:42:9
 unpack-requires : tie.Need-unpack-requires
 unpack-requires c κs = search needs
 
--- src/opening.rt:45:16
 sub-open-by : tie.Need-sub-open-by
 sub-open-by c = search needs
 
--- src/opening.rt:45:16
 part-open-by-start : tie.Need-part-open-by-start
 part-open-by-start c = search needs
 
--- src/opening.rt:45:16
 part-open-by-end : tie.Need-part-open-by-end
 part-open-by-end c = search needs
 
--- src/opening.rt:45:5
 open-by-requires : tie.Need-open-by-requires
 open-by-requires c κs = search needs
 
--- src/opening.rt:33:1
 returns-3 : tie.Need-returns-3
-returns-3 c = let s = c .before .before .before .before .before .before .before .before .before .before .before .before .before .before .args .input .now in laws.input-opened s (omega arith) (omega arith) (c .before .before .unpack .ensures) (c .open-by .ensures)
+returns-3 c =
+    let s = c .before .before .before .before .before .before .before .before .before .before .before .before .before .before .args .input .now in
+    laws.input-opened s (omega arith) (omega arith) (c .before .before .unpack .ensures) (c .open-by .ensures)
 
 pub open-spec : {M : Type 1} → statement M
 open-spec =

@@ -1,48 +1,42 @@
+-- `bytes_text` meets its contract: no bytes, too many for the memory, or the hex digits of all. Assumes nothing.
 use borrow.Author.Needs.{needs}
 use native.Mathlib.Omega.{arith}
 use Rattle.listing.proofs.Laying as laws
 use Rattle.listing.proofs.text.bytes_text.Statement.{statement}
 use Rattle.listing.proofs.text.bytes_text.Tie as tie
-use Rattle.listing.proofs.text.bytes_text.Reads as reads
-use Rattle.listing.proofs.text.bytes_text.Lts as lts
-use Rattle.listing.proofs.text.lay.Reads as lay-reads
-use Rattle.listing.proofs.text.put_hex.Reads as put-hex-reads
 
--- src/text.rt:139:20
 slice-aggregate-lay : tie.Need-slice-aggregate-lay
 slice-aggregate-lay c = search needs
 
--- src/text.rt:139:9
 lay-requires : tie.Need-lay-requires
 lay-requires c κs = search needs
 
--- src/text.rt:139:9
 same-length : tie.Need-same-length
 same-length c = search needs
 
--- src/text.rt:139:9
 returns : tie.Need-returns
-returns c = let a = c .before .before .before .before .before .before .before .before .args in laws.lays-same (a .out .now) (laws.bytes-none (a .bytes .now) (omega arith)) (c .before .before .lay .ensures)
+returns c =
+    let a = c .before .before .before .before .before .before .before .before .args in
+    laws.lays-same (a .out .now) (laws.bytes-none (a .bytes .now) (omega arith)) (c .before .before .lay .ensures)
 
--- src/text.rt:142:9
 returns-2 : tie.Need-returns-2
-returns-2 c = let a = c .before .before .before .before .args in laws.bytes-short (a .bytes .now) (a .out .now) (omega arith) (omega arith)
+returns-2 c =
+    let a = c .before .before .before .before .args in
+    laws.bytes-short (a .bytes .now) (a .out .now) (omega arith) (omega arith)
 
--- src/text.rt:144:5
 put-hex-requires : tie.Need-put-hex-requires
 put-hex-requires c κs = search needs
 
--- src/text.rt:145:16
 mul-t10 : tie.Need-mul-t10
 mul-t10 c = search needs
 
--- src/text.rt:133:1
 same-length-2 : tie.Need-same-length-2
 same-length-2 c = search needs
 
--- src/text.rt:133:1
 returns-3 : tie.Need-returns-3
-returns-3 c = let a = c .before .before .before .before .before .before .before .before .args in laws.bytes-whole (a .bytes .now) (a .out .now) (omega arith) (omega arith) (c .before .before .put-hex .ensures)
+returns-3 c =
+    let a = c .before .before .before .before .before .before .before .before .args in
+    laws.bytes-whole (a .bytes .now) (a .out .now) (omega arith) (omega arith) (c .before .before .put-hex .ensures)
 
 pub bytes-text-spec : {M : Type 1} → statement M
 bytes-text-spec =

@@ -1,3 +1,4 @@
+-- `lay` meets its contract: nothing, or the whole text. Assumes nothing.
 use borrow.Author.Needs.{needs}
 use native.Mathlib.Omega.{arith}
 use mathlib.Core.Path.{refl, ap, _∙_}
@@ -5,25 +6,23 @@ use lib.Seq.{sets, take-length}
 use Rattle.listing.proofs.Laying as laws
 use Rattle.listing.proofs.text.lay.Statement.{statement}
 use Rattle.listing.proofs.text.lay.Tie as tie
-use Rattle.listing.proofs.text.lay.Reads as reads
-use Rattle.listing.proofs.text.lay.Lts as lts
-use Rattle.area.proofs.copy.Reads as copy-reads
 
--- src/text.rt:37:9
 returns : tie.Need-returns
-returns c = let a = c .before .before .before .args in laws.lays-nothing (a .text .now) (a .out .now) (omega arith)
+returns c =
+    let a = c .before .before .before .args in
+    laws.lays-nothing (a .text .now) (a .out .now) (omega arith)
 
--- src/text.rt:39:5
 copy-requires : tie.Need-copy-requires
 copy-requires c κs = search needs
 
--- src/text.rt:31:1
 same-length : tie.Need-same-length
 same-length c = search needs
 
--- src/text.rt:31:1
 returns-2 : tie.Need-returns-2
-returns-2 c = let a = c .before .before .before .before .before .before .before .args in laws.lays-whole (a .text .now) (a .out .now) (omega arith) refl (c .before .before .copy .ensures ∙ ap (sets (a .out .now) 0) (take-length (a .text .now)))
+returns-2 c =
+    let a = c .before .before .before .before .before .before .before .args in
+    laws.lays-whole (a .text .now) (a .out .now) (omega arith) refl
+    (c .before .before .copy .ensures ∙ ap (sets (a .out .now) 0) (take-length (a .text .now)))
 
 pub lay-spec : {M : Type 1} → statement M
 lay-spec = tie.close (tie.spec returns copy-requires same-length returns-2)

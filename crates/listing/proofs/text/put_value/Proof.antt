@@ -1,3 +1,4 @@
+-- `put_value` meets its contract: an Interval, or any other value. Assumes nothing.
 use borrow.Author.Needs.{needs}
 use mathlib.Core.Path.{sym, ap, _∙_}
 use mir.Syntax.{w64}
@@ -6,44 +7,41 @@ use mir.Facts.{toZ-ofZ}
 use Rattle.listing.proofs.Numbers as laws
 use Rattle.listing.proofs.text.put_value.Statement.{statement}
 use Rattle.listing.proofs.text.put_value.Tie as tie
-use Rattle.listing.proofs.text.put_value.Reads as reads
-use Rattle.listing.proofs.text.put_value.Lts as lts
-use Rattle.encode.proofs.bits_of.Reads as bits-of-reads
-use Rattle.listing.proofs.text.is_interval.Reads as is-interval-reads
-use Rattle.listing.proofs.text.put_interval.Reads as put-interval-reads
-use Rattle.listing.proofs.text.put_number.Reads as put-number-reads
 
--- src/text.rt:76:9
 bits-of-requires : tie.Need-bits-of-requires
 bits-of-requires c κs = search needs
 
--- src/text.rt:77:8
 is-interval-requires : tie.Need-is-interval-requires
 is-interval-requires c κs = search needs
 
--- src/text.rt:78:9
 put-interval-requires : tie.Need-put-interval-requires
 put-interval-requires c κs = search needs
 
--- src/text.rt:78:9
 same-length : tie.Need-same-length
 same-length c = search needs
 
--- src/text.rt:78:9
 returns : tie.Need-returns
-returns c = let a = c .before .before .before .before .before .before .before .before .args in laws.put-interval (a .p) (a .v) (a .at) (a .out .now) (sym (c .before .before .before .before .before .is-interval .ensures) ∙ c .before .before .before .before .if1 .taken) (c .before .before .before .before .before .before .bits-of .ensures ∙ ap (ofZ w64) (toZ-ofZ (c .before .before .before .before .before .before .before .before .fits .v))) (c .before .before .put-interval .ensures)
+returns c =
+    let a = c .before .before .before .before .before .before .before .before .args in
+    laws.put-interval (a .p) (a .v) (a .at) (a .out .now)
+    (sym (c .before .before .before .before .before .is-interval .ensures) ∙ c .before .before .before .before .if1 .taken)
+    (c .before .before .before .before .before .before .bits-of .ensures ∙ ap (ofZ w64) (toZ-ofZ (c .before .before .before .before .before .before .before .before .fits .v)))
+    (c .before .before .put-interval .ensures)
 
--- src/text.rt:80:5
 put-number-requires : tie.Need-put-number-requires
 put-number-requires c κs = search needs
 
--- src/text.rt:71:1
 same-length-2 : tie.Need-same-length-2
 same-length-2 c = search needs
 
--- src/text.rt:71:1
 returns-2 : tie.Need-returns-2
-returns-2 c = let a = c .before .before .before .before .before .before .before .before .args in laws.put-other (a .p) (a .v) (a .at) (a .out .now) (sym (c .before .before .before .before .before .is-interval .ensures) ∙ c .before .before .before .before .if1 .left) (c .before .before .before .before .before .before .before .before .fits .v) (c .before .before .before .before .before .before .bits-of .ensures ∙ ap (ofZ w64) (toZ-ofZ (c .before .before .before .before .before .before .before .before .fits .v))) (c .before .before .put-number .ensures)
+returns-2 c =
+    let a = c .before .before .before .before .before .before .before .before .args in
+    laws.put-other (a .p) (a .v) (a .at) (a .out .now)
+    (sym (c .before .before .before .before .before .is-interval .ensures) ∙ c .before .before .before .before .if1 .left)
+    (c .before .before .before .before .before .before .before .before .fits .v)
+    (c .before .before .before .before .before .before .bits-of .ensures ∙ ap (ofZ w64) (toZ-ofZ (c .before .before .before .before .before .before .before .before .fits .v)))
+    (c .before .before .put-number .ensures)
 
 pub put-value-spec : {M : Type 1} → statement M
 put-value-spec =

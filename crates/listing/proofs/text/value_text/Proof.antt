@@ -1,3 +1,4 @@
+-- `value_text` meets its contract: the text is made in a room of its own and laid over the memory. Assumes nothing.
 use borrow.Author.Needs.{needs}
 use native.Mathlib.Omega.{arith}
 use mathlib.Core.Path.{sym}
@@ -9,38 +10,34 @@ use mir.Facts.{toZ-ofZ}
 use Rattle.listing.proofs.Laying as laws
 use Rattle.listing.proofs.text.value_text.Statement.{statement}
 use Rattle.listing.proofs.text.value_text.Tie as tie
-use Rattle.listing.proofs.text.value_text.Reads as reads
-use Rattle.listing.proofs.text.value_text.Lts as lts
-use Rattle.listing.proofs.text.lay.Reads as lay-reads
-use Rattle.listing.proofs.text.put_value.Reads as put-value-reads
 
--- src/text.rt:51:29
 slice-aggregate-put-value : tie.Need-slice-aggregate-put-value
 slice-aggregate-put-value c = search needs
 
--- src/text.rt:51:9
 put-value-requires : tie.Need-put-value-requires
 put-value-requires c κs = search needs
 
--- src/text.rt:52:9
 array-share-prefix-room : tie.Need-array-share-prefix-room
 array-share-prefix-room c = search needs
 
--- src/text.rt:52:9
 slice-aggregate-lay : tie.Need-slice-aggregate-lay
-slice-aggregate-lay c = let f = c .before .before .put-value in sym (length-take-le (f .result) (f .last .1 .1 .0) (omega (arith, f .kept .1 .1 .0, f .ensures .0 .1)))
+slice-aggregate-lay c =
+    let f = c .before .before .put-value in
+    sym (length-take-le (f .result) (f .last .1 .1 .0) (omega (arith, f .kept .1 .1 .0, f .ensures .0 .1)))
 
--- src/text.rt:52:5
 lay-requires : tie.Need-lay-requires
 lay-requires c κs = search needs
 
--- src/text.rt:46:1
 same-length : tie.Need-same-length
 same-length c = search needs
 
--- src/text.rt:46:1
 returns : tie.Need-returns
-returns c = let a = c .before .before .before .before .before .before .before .before .before .args in let f = c .before .before .before .before .before .before .put-value in laws.lays-same (a .out .now) (laws.value-back (a .p) (toZ w64 (ofZ w64 (a .v))) (a .v) (replicate 43 0) (toZ-ofZ (c .before .before .before .before .before .before .before .before .before .fits .v)) (f .ensures .0 .0) (omega (arith, f .ensures .0 .1)) (f .ensures .1)) (c .before .before .lay .ensures)
+returns c =
+    let a = c .before .before .before .before .before .before .before .before .before .args in
+    let f = c .before .before .before .before .before .before .put-value in
+    laws.lays-same (a .out .now)
+    (laws.value-back (a .p) (toZ w64 (ofZ w64 (a .v))) (a .v) (replicate 43 0) (toZ-ofZ (c .before .before .before .before .before .before .before .before .before .fits .v)) (f .ensures .0 .0) (omega (arith, f .ensures .0 .1)) (f .ensures .1))
+    (c .before .before .lay .ensures)
 
 pub value-text-spec : {M : Type 1} → statement M
 value-text-spec =
