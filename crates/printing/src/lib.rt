@@ -61,6 +61,7 @@ fn say_all(reader: Reader, block: &[u8]) {
     say(b"end\n");
 }
 
+// The first n rows. An opened block has a known kind.
 fn say_rows(reader: Reader, n: usize, block: &[u8]) {
     let found = encode::kind_of(reader.kind, reader.width);
     let FoundKind::Known(kind) = found else {
@@ -112,7 +113,7 @@ fn say_next(
     answer.reader
 }
 
-// The row's index and its text.
+// The row's index and its text, which the room always holds.
 fn say_row(index: usize, made: Made, text: &[u8]) {
     let Made::Text(n) = made else {
         return;
