@@ -1,0 +1,4 @@
+pub mod Openings
+pub mod Numbers
+pub mod Laying
+pub mod Sample

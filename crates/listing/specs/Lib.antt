@@ -1,0 +1,3 @@
+pub mod Descriptor
+pub mod Text
+pub mod Listing
