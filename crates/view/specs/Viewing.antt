@@ -20,6 +20,9 @@ readFrom o b n size a =
 unfoldable pub sizeAfter : ℕ → ℕ → ℕ → ℕ
 sizeAfter o s size = cond (eqb o 0) (cond (eqb s 0) size 0) 0
 
+unfoldable pub firstRefusal : ℕ → ℕ → ℕ → ℕ
+firstRefusal o s g = cond (eqb o 0) (cond (eqb s 0) g s) o
+
 pub record Read : Type 0 where
   pub answer : Steps
   pub areas : Areas

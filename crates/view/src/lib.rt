@@ -3,11 +3,9 @@ use block::Given;
 use block::Left;
 use block::Reader;
 ghost use mathlib.Core.Path.{_≡_};
-ghost use mathlib.Core.Bool.{cond};
-ghost use lib.Dec.{eqb};
 ghost use Rattle.block.specs.Reading.{Areas, Batch, areas, opened, skipped, batched, remaining};
 ghost use Rattle.capi.specs.Answers.{openingOf};
-ghost use Rattle.view.specs.Viewing.{Read, readFrom, stepwise, sizeAfter};
+ghost use Rattle.view.specs.Viewing.{Read, readFrom, stepwise, sizeAfter, firstRefusal};
 
 // A block, and where reading stands in it.
 pub struct View<'a> {
@@ -124,6 +122,19 @@ fn size_after(opened: u8, skipped: u8, size: usize) -> usize
     size
 }
 
+// The number of the first call that is refused, or the batch's.
+fn first_refusal(opened: u8, skipped: u8, given: u8) -> u8
+    ensures { λ r. ⌜ r ≡ firstRefusal opened skipped given ⌝ }
+{
+    if opened != 0 {
+        return opened;
+    }
+    if skipped != 0 {
+        return skipped;
+    }
+    given
+}
+
 // Opens, passes over `passed` rows, and gives up to `size`.
 fn go_through(
     kind: usize,
@@ -191,13 +202,7 @@ pub fn read(
         ends,
         bytes,
     );
-    let mut number = steps.given;
-    if steps.skipped != 0 {
-        number = steps.skipped;
-    }
-    if steps.opened != 0 {
-        number = steps.opened;
-    }
+    let number = first_refusal(steps.opened, steps.skipped, steps.given);
     let reader = steps.reader;
     Given {
         number,

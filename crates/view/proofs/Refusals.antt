@@ -1,0 +1,91 @@
+-- After a refusal: the size that is asked for, the number that comes back, and that the three calls one after the other come to the definition. Assumes
+-- nothing.
+use Prim.Native.Nat.{ℕ}
+use mathlib.Core.Bool.{Bool, true, false, cond}
+use mathlib.Core.List.{List}
+use mathlib.Core.Path.{_≡_, refl, sym, ap, _∙_}
+use lib.Dec.{eqb}
+use borrow.Author.Tests.{eq-eqb, ne-eqb, eqb-false}
+use Rattle.encode.specs.Kinds.{numbered, kindOf}
+use Rattle.format.specs.Blocks.{columnOf, withEncoding}
+use Rattle.block.specs.declared.Reader.{Reader}
+use Rattle.block.specs.declared.Opened.{Opened}
+use Rattle.block.specs.declared.Opened.the-variants.{Open, Refused}
+use Rattle.block.specs.declared.Skipped.{Skipped}
+use Rattle.block.specs.Reading.{Areas, Batch, refusedBatch, skippedIn, skipped, batched}
+use Rattle.capi.specs.declared.Opening.{Opening}
+use Rattle.capi.specs.Answers.{openingOf}
+use Rattle.view.specs.declared.Steps.{Steps}
+use Rattle.view.specs.Viewing.{batchFrom, readFrom, sizeAfter, firstRefusal, Read, stepsOf, stepwise}
+
+-- ---- the three outcomes of the two helpers
+module _ (o s x : ℕ) where
+  pub size-unopened : (o ≡ 0 → ⊥) → 0 ≡ sizeAfter o s x
+  unfolding sizeAfter
+  size-unopened h = sym (ap (λ (t : Bool). cond t (cond (eqb s 0) x 0) 0) (ne-eqb _ _ h))
+
+  pub size-unskipped : o ≡ 0 → (s ≡ 0 → ⊥) → 0 ≡ sizeAfter o s x
+  unfolding sizeAfter
+  size-unskipped g h = sym (ap (λ (t : Bool). cond t (cond (eqb s 0) x 0) 0) (eq-eqb _ _ g) ∙ ap (λ (t : Bool). cond t x 0) (ne-eqb _ _ h))
+
+  pub size-kept : o ≡ 0 → s ≡ 0 → x ≡ sizeAfter o s x
+  unfolding sizeAfter
+  size-kept g h = sym (ap (λ (t : Bool). cond t (cond (eqb s 0) x 0) 0) (eq-eqb _ _ g) ∙ ap (λ (t : Bool). cond t x 0) (eq-eqb _ _ h))
+
+  pub first-opened : (o ≡ 0 → ⊥) → o ≡ firstRefusal o s x
+  unfolding firstRefusal
+  first-opened h = sym (ap (λ (t : Bool). cond t (cond (eqb s 0) x s) o) (ne-eqb _ _ h))
+
+  pub first-skipped : o ≡ 0 → (s ≡ 0 → ⊥) → s ≡ firstRefusal o s x
+  unfolding firstRefusal
+  first-skipped g h = sym (ap (λ (t : Bool). cond t (cond (eqb s 0) x s) o) (eq-eqb _ _ g) ∙ ap (λ (t : Bool). cond t x s) (ne-eqb _ _ h))
+
+  pub first-given : o ≡ 0 → s ≡ 0 → x ≡ firstRefusal o s x
+  unfolding firstRefusal
+  first-given g h = sym (ap (λ (t : Bool). cond t (cond (eqb s 0) x s) o) (eq-eqb _ _ g) ∙ ap (λ (t : Bool). cond t x s) (eq-eqb _ _ h))
+
+-- ---- the three calls come to the definition
+-- what `read` makes of the three answers
+abbrev pub told : Read → Batch
+told x = record {
+  answer = record {
+    number = firstRefusal (x .answer .opened) (x .answer .skipped) (x .answer .given);
+    rows = x .answer .rows;
+    bytes = x .answer .bytes;
+    reader = x .answer .reader;
+  };
+  areas = x .areas;
+}
+
+module _ (b : List ℕ) (n size : ℕ) (a : Areas) where
+  -- the reader beside a refused opening is the same after a skip
+  kept : (x : Opened) → (openingOf x .number ≡ 0 → ⊥) → skipped (openingOf x .reader) b n .reader ≡ openingOf x .reader
+  unfolding openingOf skipped skippedIn columnOf withEncoding kindOf numbered
+  kept (Open r) h = absurd (h refl)
+  kept (Refused e) h = refl
+
+  module _ (o : Opening) (s : Skipped) where
+    abbrev answers : Bool → Bool → Batch → Batch
+    answers p q g = record {
+      answer = record {
+        number = cond p (cond q (g .answer .number) (s .number)) (o .number);
+        rows = g .answer .rows;
+        bytes = g .answer .bytes;
+        reader = g .answer .reader;
+      };
+      areas = g .areas;
+    }
+
+    by-cases : (p q : Bool) → (p ≡ false → s .reader ≡ o .reader)
+        → answers p q (batched (s .reader) b (cond p (cond q size 0) 0) a)
+        ≡ cond p (cond q (batched (s .reader) b size a) (refusedBatch (s .number) (s .reader) a)) (refusedBatch (o .number) (o .reader) a)
+    unfolding batched
+    by-cases true true h = refl
+    by-cases true false h = refl
+    by-cases false q h = ap (λ (r : Reader). refusedBatch (o .number) r a) (h refl)
+
+  pub tells : (x : Opened) → told (stepwise (openingOf x) b n size a) ≡ readFrom (openingOf x) b n size a
+  unfolding firstRefusal sizeAfter readFrom batchFrom
+  tells x =
+      by-cases (openingOf x) (skipped (openingOf x .reader) b n) (eqb (openingOf x .number) 0) (eqb (skipped (openingOf x .reader) b n .number) 0)
+      (λ h. kept x (eqb-false _ _ h))
