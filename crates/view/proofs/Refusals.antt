@@ -9,6 +9,7 @@ use borrow.Author.Tests.{eq-eqb, ne-eqb, eqb-false}
 use Rattle.encode.specs.Kinds.{numbered, kindOf}
 use Rattle.format.specs.Blocks.{columnOf, withEncoding}
 use Rattle.block.specs.declared.Reader.{Reader}
+use Rattle.block.specs.declared.Given.{Given}
 use Rattle.block.specs.declared.Opened.{Opened}
 use Rattle.block.specs.declared.Opened.the-variants.{Open, Refused}
 use Rattle.block.specs.declared.Skipped.{Skipped}
@@ -46,16 +47,14 @@ module _ (o s x : ℕ) where
 
 -- ---- the three calls come to the definition
 -- what `read` makes of the three answers
-abbrev pub told : Read → Batch
-told x = record {
-  answer = record {
-    number = firstRefusal (x .answer .opened) (x .answer .skipped) (x .answer .given);
-    rows = x .answer .rows;
-    bytes = x .answer .bytes;
-    reader = x .answer .reader;
-  };
-  areas = x .areas;
-}
+abbrev toldBy : ℕ → Steps → Given
+toldBy e x = record { number = e; rows = x .rows; bytes = x .bytes; reader = x .reader }
+
+abbrev numberIn : Steps → ℕ
+numberIn x = firstRefusal (x .opened) (x .skipped) (x .given)
+
+abbrev told : Read → Batch
+told x = record { answer = toldBy (numberIn (x .answer)) (x .answer); areas = x .areas }
 
 module _ (b : List ℕ) (n size : ℕ) (a : Areas) where
   -- the reader beside a refused opening is the same after a skip
@@ -84,8 +83,15 @@ module _ (b : List ℕ) (n size : ℕ) (a : Areas) where
     by-cases true false h = refl
     by-cases false q h = ap (λ (r : Reader). refusedBatch (o .number) r a) (h refl)
 
-  pub tells : (x : Opened) → told (stepwise (openingOf x) b n size a) ≡ readFrom (openingOf x) b n size a
+  tells : (x : Opened) → told (stepwise (openingOf x) b n size a) ≡ readFrom (openingOf x) b n size a
   unfolding firstRefusal sizeAfter readFrom batchFrom
   tells x =
       by-cases (openingOf x) (skipped (openingOf x .reader) b n) (eqb (openingOf x .number) 0) (eqb (skipped (openingOf x .reader) b n .number) 0)
       (λ h. kept x (eqb-false _ _ h))
+
+  module _ (x : Opened) where
+    pub answer-told : (st : Steps) (e : ℕ) → e ≡ numberIn st → st ≡ stepwise (openingOf x) b n size a .answer → toldBy e st ≡ readFrom (openingOf x) b n size a .answer
+    answer-told st e p q = ap (λ (m : ℕ). toldBy m st) p ∙ ap (λ (t : Steps). toldBy (numberIn t) t) q ∙ ap (λ (z : Batch). z .answer) (tells x)
+
+    pub areas-told : stepwise (openingOf x) b n size a .areas ≡ readFrom (openingOf x) b n size a .areas
+    areas-told = ap (λ (z : Batch). z .areas) (tells x)
