@@ -3,7 +3,7 @@
 use Prim.Native.Nat.{ℕ}
 use mathlib.Core.Bool.{Bool, true, false, cond}
 use mathlib.Core.List.{List}
-use mathlib.Core.Path.{_≡_, refl, sym, ap, _∙_}
+use mathlib.Core.Path.{_≡_, refl, sym, ap, subst, _∙_}
 use lib.Dec.{eqb}
 use borrow.Author.Tests.{eq-eqb, ne-eqb, eqb-false}
 use Rattle.encode.specs.Kinds.{numbered, kindOf}
@@ -17,7 +17,8 @@ use Rattle.block.specs.Reading.{Areas, Batch, refusedBatch, skippedIn, skipped,
 use Rattle.capi.specs.declared.Opening.{Opening}
 use Rattle.capi.specs.Answers.{openingOf}
 use Rattle.view.specs.declared.Steps.{Steps}
-use Rattle.view.specs.Viewing.{batchFrom, readFrom, sizeAfter, firstRefusal, Read, stepsOf, stepwise}
+use Rattle.view.specs.Viewing.{batchFrom, readFrom}
+use Rattle.view.specs.Stepwise.{sizeAfter, firstRefusal, Read, stepwise}
 
 -- ---- the three outcomes of the two helpers
 module _ (o s x : ℕ) where
@@ -89,9 +90,13 @@ module _ (b : List ℕ) (n size : ℕ) (a : Areas) where
       by-cases (openingOf x) (skipped (openingOf x .reader) b n) (eqb (openingOf x .number) 0) (eqb (skipped (openingOf x .reader) b n .number) 0)
       (λ h. kept x (eqb-false _ _ h))
 
-  module _ (x : Opened) where
-    pub answer-told : (st : Steps) (e : ℕ) → e ≡ numberIn st → st ≡ stepwise (openingOf x) b n size a .answer → toldBy e st ≡ readFrom (openingOf x) b n size a .answer
-    answer-told st e p q = ap (λ (m : ℕ). toldBy m st) p ∙ ap (λ (t : Steps). toldBy (numberIn t) t) q ∙ ap (λ (z : Batch). z .answer) (tells x)
+  -- what is said of the four areas, after the three calls and by the definition
+  abbrev Hold : Areas → Areas → Type 0
+  Hold y z = (y .values ≡ z .values) × ((y .flags ≡ z .flags) × ((y .ends ≡ z .ends) × (y .bytes ≡ z .bytes)))
 
-    pub areas-told : stepwise (openingOf x) b n size a .areas ≡ readFrom (openingOf x) b n size a .areas
-    areas-told = ap (λ (z : Batch). z .areas) (tells x)
+  pub read-told : (x : Opened) (st : Steps) (e : ℕ) (y : Areas) → e ≡ numberIn st
+      → (st ≡ stepwise (openingOf x) b n size a .answer) × Hold y (stepwise (openingOf x) b n size a .areas)
+      → (toldBy e st ≡ readFrom (openingOf x) b n size a .answer) × Hold y (readFrom (openingOf x) b n size a .areas)
+  read-told x st e y p q =
+      subst (λ (z : Batch). (toldBy e st ≡ z .answer) × Hold y (z .areas)) (tells x)
+      (ap (λ (m : ℕ). toldBy m st) p ∙ ap (λ (t : Steps). toldBy (numberIn t) t) (q .0), q .1)

@@ -1,14 +1,13 @@
--- Opening, a skip and a batch in one call. Assumes nothing.
+-- Opening, a skip and a batch in one call: the answer of the first that is refused, or the batch's. Assumes nothing.
 use Prim.Native.Nat.{ℕ}
 use mathlib.Core.Bool.{cond}
 use mathlib.Core.List.{List}
 use lib.Dec.{eqb}
 use Rattle.block.specs.declared.Skipped.{Skipped}
-use Rattle.block.specs.Reading.{Areas, Batch, refusedBatch, skipped, batched}
+use Rattle.block.specs.Reading.{Areas, Batch, refusedBatch, opened, skipped, batched}
 use Rattle.capi.specs.declared.Opening.{Opening}
-use Rattle.view.specs.declared.Steps.{Steps}
+use Rattle.capi.specs.Answers.{openingOf}
 
--- the answer of the first call that is refused, or the batch's
 unfoldable pub batchFrom : Skipped → List ℕ → ℕ → Areas → Batch
 batchFrom s b size a = cond (eqb (s .number) 0) (batched (s .reader) b size a) (refusedBatch (s .number) (s .reader) a)
 
@@ -16,33 +15,6 @@ unfoldable pub readFrom : Opening → List ℕ → ℕ → ℕ → Areas → Bat
 readFrom o b n size a =
     cond (eqb (o .number) 0) (batchFrom (skipped (o .reader) b n) b size a) (refusedBatch (o .number) (o .reader) a)
 
--- ---- for the code: the three calls one after the other, the batch of no rows after a refusal
-unfoldable pub sizeAfter : ℕ → ℕ → ℕ → ℕ
-sizeAfter o s size = cond (eqb o 0) (cond (eqb s 0) size 0) 0
-
-unfoldable pub firstRefusal : ℕ → ℕ → ℕ → ℕ
-firstRefusal o s g = cond (eqb o 0) (cond (eqb s 0) g s) o
-
-pub record Read : Type 0 where
-  pub answer : Steps
-  pub areas : Areas
-
-abbrev pub stepsOf : ℕ → ℕ → Batch → Read
-stepsOf o s g = record {
-  answer = record {
-    opened = o;
-    skipped = s;
-    given = g .answer .number;
-    rows = g .answer .rows;
-    bytes = g .answer .bytes;
-    reader = g .answer .reader;
-  };
-  areas = g .areas;
-}
-
-abbrev pub batchAfter : Opening → Skipped → List ℕ → ℕ → Areas → Batch
-batchAfter o s b size a = batched (s .reader) b (sizeAfter (o .number) (s .number) size) a
-
-abbrev pub stepwise : Opening → List ℕ → ℕ → ℕ → Areas → Read
-stepwise o b n size a =
-    stepsOf (o .number) (skipped (o .reader) b n .number) (batchAfter o (skipped (o .reader) b n) b size a)
+-- n rows are passed over
+abbrev pub readBlock : ℕ → ℕ → ℕ → ℕ → List ℕ → ℕ → ℕ → Areas → Batch
+readBlock kind encoding width rows b n size a = readFrom (openingOf (opened kind encoding width rows b)) b n size a

@@ -5,7 +5,8 @@ use block::Reader;
 ghost use mathlib.Core.Path.{_≡_};
 ghost use Rattle.block.specs.Reading.{Areas, Batch, areas, opened, skipped, batched, remaining};
 ghost use Rattle.capi.specs.Answers.{openingOf};
-ghost use Rattle.view.specs.Viewing.{Read, readFrom, stepwise, sizeAfter, firstRefusal};
+ghost use Rattle.view.specs.Viewing.{readBlock};
+ghost use Rattle.view.specs.Stepwise.{Read, stepwise, sizeAfter, firstRefusal};
 
 // A block, and where reading stands in it.
 pub struct View<'a> {
@@ -100,13 +101,13 @@ impl<'a> View<'a> {
 // ---- one function above them, with plain parameters
 
 // What the three calls answered, one after the other.
-pub struct Steps {
-    pub opened: u8,
-    pub skipped: u8,
-    pub given: u8,
-    pub rows: usize,
-    pub bytes: usize,
-    pub reader: Reader,
+struct Steps {
+    opened: u8,
+    skipped: u8,
+    given: u8,
+    rows: usize,
+    bytes: usize,
+    reader: Reader,
 }
 
 // The rows to ask for: none, which a batch refuses, after a refusal.
@@ -183,11 +184,11 @@ pub fn read(
     ends: &mut [u32],
     bytes: &mut [u8],
 ) -> Given
-    ensures { λ r. ⌜ r ≡ readFrom (openingOf (opened kind encoding width rows (now (block .entry)))) (now (block .entry)) passed size (areas (now (values .entry)) (now (flags .entry)) (now (ends .entry)) (now (bytes .entry))) .answer ⌝ }
-    ensures { λ _. ⌜ now (values .exit) ≡ readFrom (openingOf (opened kind encoding width rows (now (block .entry)))) (now (block .entry)) passed size (areas (now (values .entry)) (now (flags .entry)) (now (ends .entry)) (now (bytes .entry))) .areas .values ⌝ }
-    ensures { λ _. ⌜ now (flags .exit) ≡ readFrom (openingOf (opened kind encoding width rows (now (block .entry)))) (now (block .entry)) passed size (areas (now (values .entry)) (now (flags .entry)) (now (ends .entry)) (now (bytes .entry))) .areas .flags ⌝ }
-    ensures { λ _. ⌜ now (ends .exit) ≡ readFrom (openingOf (opened kind encoding width rows (now (block .entry)))) (now (block .entry)) passed size (areas (now (values .entry)) (now (flags .entry)) (now (ends .entry)) (now (bytes .entry))) .areas .ends ⌝ }
-    ensures { λ _. ⌜ now (bytes .exit) ≡ readFrom (openingOf (opened kind encoding width rows (now (block .entry)))) (now (block .entry)) passed size (areas (now (values .entry)) (now (flags .entry)) (now (ends .entry)) (now (bytes .entry))) .areas .bytes ⌝ }
+    ensures { λ r. ⌜ r ≡ readBlock kind encoding width rows (now (block .entry)) passed size (areas (now (values .entry)) (now (flags .entry)) (now (ends .entry)) (now (bytes .entry))) .answer ⌝ }
+    ensures { λ _. ⌜ now (values .exit) ≡ readBlock kind encoding width rows (now (block .entry)) passed size (areas (now (values .entry)) (now (flags .entry)) (now (ends .entry)) (now (bytes .entry))) .areas .values ⌝ }
+    ensures { λ _. ⌜ now (flags .exit) ≡ readBlock kind encoding width rows (now (block .entry)) passed size (areas (now (values .entry)) (now (flags .entry)) (now (ends .entry)) (now (bytes .entry))) .areas .flags ⌝ }
+    ensures { λ _. ⌜ now (ends .exit) ≡ readBlock kind encoding width rows (now (block .entry)) passed size (areas (now (values .entry)) (now (flags .entry)) (now (ends .entry)) (now (bytes .entry))) .areas .ends ⌝ }
+    ensures { λ _. ⌜ now (bytes .exit) ≡ readBlock kind encoding width rows (now (block .entry)) passed size (areas (now (values .entry)) (now (flags .entry)) (now (ends .entry)) (now (bytes .entry))) .areas .bytes ⌝ }
 {
     let steps = go_through(
         kind,

@@ -1,5 +1,5 @@
--- `server::append` meets its contract: a walk of its MIR, by hand. The borrow of the record is opened and the record copied; all that was passed beside it goes on to `Builder/append` whole; the state that `Builder/append` returned is stored in the record's cell, and the borrow is closed at it.
--- All that the proof knows of `Builder/append` is that it meets its contract. What is had at exit of the parameters that went on is what `Builder/append`'s contract says of their last values (`Said.antt`).
+-- `server::append` meets its contract: a walk of its MIR, by hand. The borrow of the record is opened and the record copied; all that was passed beside it goes on to `Builder::append` whole; the state that `Builder::append` returned is stored in the record's cell, and the borrow is closed at it.
+-- All that the proof knows of `Builder::append` is that it meets its contract. What is had at exit of the parameters that went on is what `Builder::append`'s contract says of their last values (`Said.antt` of `walk`).
 -- Assumes nothing.
 use mathlib.Core.Path.{_≡_, refl, ap}
 use Prim.Native.Nat.{ℕ, _<_, _^_}

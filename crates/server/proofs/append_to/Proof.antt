@@ -1,5 +1,5 @@
--- `server::append_to` meets its contract: a walk of its MIR, by hand. The record lies in a local, which is lent to the call for a lifetime that is made for it (`Lent.antt`), and all that was passed beside it goes on whole.
--- All that the proof knows of a callee is that it meets its contract. What is had at exit of the parameters is what the contract says of their last values (`Said.antt`).
+-- `server::append_to` meets its contract: a walk of its MIR, by hand. The record lies in a local, which is lent to the call for a lifetime that is made for it (`Lent.antt` of `walk`), and all that was passed beside it goes on whole.
+-- All that the proof knows of a callee is that it meets its contract. What is had at exit of the parameters is what the contract says of their last values (`Said.antt` of `walk`).
 -- Assumes nothing.
 use mathlib.Core.Path.{_≡_, refl, ap, _∙_}
 use Prim.Native.Nat.{ℕ, _<_, _^_}

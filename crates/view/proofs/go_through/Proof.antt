@@ -1,5 +1,5 @@
 -- `view::go_through` meets its contract: a walk of its MIR, by hand. The struct that `open` returns is held in a local and its view passed to `skip`, and the view that this returns to `batch`.
--- All that the proof knows of a callee is that it meets its contract. What is had at exit of the parameters is what the contract says of their last values (`Said.antt`).
+-- All that the proof knows of a callee is that it meets its contract. What is had at exit of the parameters is what the contract says of their last values (`Said.antt` of `walk`).
 -- Assumes nothing.
 use mathlib.Core.Path.{_≡_, refl, ap, _∙_}
 use Prim.Native.Nat.{ℕ, _<_, _^_}
@@ -49,7 +49,7 @@ use Rattle.block.specs.declared.Skipped.{Skipped}
 use Rattle.block.specs.Reading.{Areas, Batch, areas, opened, skipped, batched}
 use Rattle.capi.specs.declared.Opening.{Opening}
 use Rattle.capi.specs.Answers.{openingOf}
-use Rattle.view.specs.Viewing.{Read, sizeAfter, stepwise}
+use Rattle.view.specs.Stepwise.{Read, sizeAfter, stepwise}
 use Rattle.walk.proofs.Said.{stays-said, fits-said, goes-said}
 use Rattle.block.specs.declared.Reader.{Reader}
 use Rattle.block.proofs.Reader as P
@@ -250,7 +250,7 @@ module _ {M : Type 1} (𝓤 : URA M) (H : Heap 𝓤) (A : Atoms 𝓤) (W : Given
       qed W (raw Toks ∷ ‵ (lasts g.ended κs cargs zs) ∷ []) ∵
       suffices ! _ (ends-at 𝓤 H A f.ended stayed (f.clauses 𝓤 H A mem run) W ((κs, qs, bounds, a, vals), tt) (LL.val S.the-type S′.the-laws fin) fin (tt, (tt, (tt, (tt, (tt, (tt, zs .1)))))) (fits-said κs (f.signature .params) (f.ended .kept) a (tt, (tt, (tt, (tt, (tt, (tt, zs .1)))))))) $
       owned ! S.the-row (Is S.the-row) (LL.makes S.the-type S′.the-plain 𝓤 H A) fin _ is $ move ! (2 ∷ []) $
-      nothing ! $ fjoin ! $ nothing ! $ fjoin ! $ nothing ! $ fjoin ! $ nothing ! $ fjoin ! $ nothing ! $ fjoin ! $ 
+      nothing ! $ fjoin ! $ nothing ! $ fjoin ! $ nothing ! $ fjoin ! $ nothing ! $ fjoin ! $ nothing ! $ fjoin ! $
       -- [what is said of the last values; the result; the tokens]
       move ! (2 ∷ 0 ∷ 1 ∷ []) $ group ! 3 $ frame ! $
       use0 W (raw (fact 𝓤 (zs .1 .1 .1 .1 .1 .0 ≡ stepwise Op (now (a .1 .1 .1 .1 .0)) (a .1 .1 .1 .1 .1 .0) (a .1 .1 .1 .1 .1 .1 .0) Ar .areas .bytes))) (factI 𝓤 (zs .1 .1 .1 .1 .1 .0 ≡ stepwise Op (now (a .1 .1 .1 .1 .0)) (a .1 .1 .1 .1 .1 .0) (a .1 .1 .1 .1 .1 .1 .0) Ar .areas .bytes) (emp 𝓤) (e4)) $

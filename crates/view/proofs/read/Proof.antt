@@ -1,8 +1,6 @@
 -- `view::read` meets its contract: the three answers, one after the other, come to the definition. Assumes nothing.
-use mathlib.Core.Path.{ap, _∙_}
-use denote.Ref.{now}
-use Rattle.block.specs.Reading.{Areas, areas, opened}
-use Rattle.view.proofs.Refusals.{answer-told, areas-told}
+use Rattle.block.specs.Reading.{areas}
+use Rattle.view.proofs.Refusals.{read-told}
 use borrow.Author.Needs.{needs}
 use Rattle.view.proofs.read.Statement.{statement}
 use Rattle.view.proofs.read.Tie as tie
@@ -38,14 +36,8 @@ same-length-4 c = search needs
 -- src/lib.rt:173:1
 returns : tie.Need-returns
 returns c =
-    let start = c .before .before .before .before .before .before .before .before .before .before .before .before .before .before .before .before .before .before .args in
-    let three = c .before .before .before .before .before .before .before .before .before .go-through in
-    let same = areas-told (now (start .block)) (start .passed) (start .size) (areas (now (start .values)) (now (start .flags)) (now (start .ends)) (now (start .bytes))) (opened (start .kind) (start .encoding) (start .width) (start .rows) (now (start .block))) in
-    (answer-told _ _ _ _ _ _ _ (c .before .first-refusal .ensures) (three .ensures .0),
-    (three .ensures .1 .0 ∙ ap (λ (z : Areas). z .values) same,
-    (three .ensures .1 .1 .0 ∙ ap (λ (z : Areas). z .flags) same,
-    (three .ensures .1 .1 .1 .0 ∙ ap (λ (z : Areas). z .ends) same,
-    three .ensures .1 .1 .1 .1 ∙ ap (λ (z : Areas). z .bytes) same))))
+    read-told _ _ _ _ _ _ _ (areas _ _ _ _) (c .before .first-refusal .ensures)
+    (c .before .before .before .before .before .before .before .before .before .go-through .ensures)
 
 pub read-spec : {M : Type 1} → statement M
 read-spec =
