@@ -13,6 +13,10 @@ fn number(n: u64) {
     io::print_decimal(1, n);
 }
 
+fn byte(n: u8) {
+    number(n as u64);
+}
+
 fn size(n: usize) {
     number(n as u64);
 }
@@ -54,7 +58,7 @@ fn read(block: &[u8], rows: usize, passed: usize, asked: usize) {
     size(passed);
     size(asked);
     say(b":");
-    number(given.number as u64);
+    byte(given.number);
     size(given.rows);
     say(b" values");
     signed(values[0]);
@@ -62,10 +66,10 @@ fn read(block: &[u8], rows: usize, passed: usize, asked: usize) {
     signed(values[2]);
     signed(values[3]);
     say(b" flags");
-    number(flags[0] as u64);
-    number(flags[1] as u64);
-    number(flags[2] as u64);
-    number(flags[3] as u64);
+    byte(flags[0]);
+    byte(flags[1]);
+    byte(flags[2]);
+    byte(flags[3]);
     say(b"\n");
 }
 
@@ -110,7 +114,7 @@ fn append(
     say(b"append");
     signed(value);
     say(b":");
-    number(answer.number as u64);
+    byte(answer.number);
     say(b" builder");
     size(next.rows);
     size(next.runs);
@@ -191,7 +195,7 @@ fn appends(builder: Builder) {
     let mut block = [0u8; 18];
     let finished = six.finish(&items, &ends, &flags, &counts, &keys, &lens, &mut block);
     say(b"finish:");
-    number(finished.number as u64);
+    byte(finished.number);
     size(finished.len);
     say(b"\n");
     reads(&block);
@@ -203,7 +207,7 @@ fn main() {
         Created::New(builder) => {
             appends(builder);
         }
-        Created::Refused(number) => {
+        Created::Refused(_) => {
             say(b"refused\n");
         }
     }
