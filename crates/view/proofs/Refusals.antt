@@ -24,27 +24,27 @@ use Rattle.view.specs.Stepwise.{sizeAfter, firstRefusal, Read, stepwise}
 module _ (o s x : ℕ) where
   pub size-unopened : (o ≡ 0 → ⊥) → 0 ≡ sizeAfter o s x
   unfolding sizeAfter
-  size-unopened h = sym (ap (λ (t : Bool). cond t (cond (eqb s 0) x 0) 0) (ne-eqb _ _ h))
+  size-unopened h = simp (ne-eqb o 0 h)
 
   pub size-unskipped : o ≡ 0 → (s ≡ 0 → ⊥) → 0 ≡ sizeAfter o s x
   unfolding sizeAfter
-  size-unskipped g h = sym (ap (λ (t : Bool). cond t (cond (eqb s 0) x 0) 0) (eq-eqb _ _ g) ∙ ap (λ (t : Bool). cond t x 0) (ne-eqb _ _ h))
+  size-unskipped g h = simp (eq-eqb o 0 g, ne-eqb s 0 h)
 
   pub size-kept : o ≡ 0 → s ≡ 0 → x ≡ sizeAfter o s x
   unfolding sizeAfter
-  size-kept g h = sym (ap (λ (t : Bool). cond t (cond (eqb s 0) x 0) 0) (eq-eqb _ _ g) ∙ ap (λ (t : Bool). cond t x 0) (eq-eqb _ _ h))
+  size-kept g h = simp (eq-eqb o 0 g, eq-eqb s 0 h)
 
   pub first-opened : (o ≡ 0 → ⊥) → o ≡ firstRefusal o s x
   unfolding firstRefusal
-  first-opened h = sym (ap (λ (t : Bool). cond t (cond (eqb s 0) x s) o) (ne-eqb _ _ h))
+  first-opened h = simp (ne-eqb o 0 h)
 
   pub first-skipped : o ≡ 0 → (s ≡ 0 → ⊥) → s ≡ firstRefusal o s x
   unfolding firstRefusal
-  first-skipped g h = sym (ap (λ (t : Bool). cond t (cond (eqb s 0) x s) o) (eq-eqb _ _ g) ∙ ap (λ (t : Bool). cond t x s) (ne-eqb _ _ h))
+  first-skipped g h = simp (eq-eqb o 0 g, ne-eqb s 0 h)
 
   pub first-given : o ≡ 0 → s ≡ 0 → x ≡ firstRefusal o s x
   unfolding firstRefusal
-  first-given g h = sym (ap (λ (t : Bool). cond t (cond (eqb s 0) x s) o) (eq-eqb _ _ g) ∙ ap (λ (t : Bool). cond t x s) (eq-eqb _ _ h))
+  first-given g h = simp (eq-eqb o 0 g, eq-eqb s 0 h)
 
 -- ---- the three calls come to the definition
 -- what `read` makes of the three answers
