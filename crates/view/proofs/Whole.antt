@@ -1,0 +1,29 @@
+-- The promises of opening, skip and batch on a view say each part of the answer: two answers that satisfy one coincide. Assumes nothing.
+use Prim.Native.Nat.{ℕ}
+use mathlib.Core.List.{List}
+use mathlib.Core.Path.{_≡_, sym, _∙_}
+use denote.Ref.{RefT}
+use Rattle.block.specs.declared.Reader.{Reader}
+use Rattle.view.specs.declared.View.{View}
+use Rattle.view.specs.declared.Viewed.{Viewed}
+use Rattle.view.specs.declared.Taken.{Taken}
+
+module _ (n : ℕ) (b : RefT (List ℕ)) (x : Reader) where
+  abbrev Said : Viewed → Type 0
+  Said r = (r .number ≡ n) × (r .view .block ≡ b) × (r .view .reader ≡ x)
+
+  whole : (r : Viewed) → Said r → r ≡ record { number = n; view = record { block = b; reader = x } }
+  whole r p = λ i. record { number = p .0 i; view = record { block = p .1 i; reader = p .2 i } }
+
+  pub one-viewed : (r s : Viewed) → Said r → Said s → r ≡ s
+  one-viewed r s p q = whole r p ∙ sym (whole s q)
+
+  module _ (m k : ℕ) where
+    abbrev Gave : Taken → Type 0
+    Gave r = (r .number ≡ n) × (r .rows ≡ m) × (r .bytes ≡ k) × (r .view .block ≡ b) × (r .view .reader ≡ x)
+
+    whole-taken : (r : Taken) → Gave r → r ≡ record { number = n; rows = m; bytes = k; view = record { block = b; reader = x } }
+    whole-taken r p = λ i. record { number = p .0 i; rows = p .1 i; bytes = p .2 i; view = record { block = p .3 i; reader = p .4 i } }
+
+    pub one-taken : (r s : Taken) → Gave r → Gave s → r ≡ s
+    one-taken r s p q = whole-taken r p ∙ sym (whole-taken s q)

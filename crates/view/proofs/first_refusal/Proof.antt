@@ -1,0 +1,22 @@
+-- `view::first_refusal` meets its contract: each of its three returns by its law. Assumes nothing.
+use borrow.Author.Needs.{needs}
+use Rattle.view.proofs.Refusals.{first-opened, first-skipped, first-given}
+use Rattle.view.proofs.first_refusal.Statement.{statement}
+use Rattle.view.proofs.first_refusal.Tie as tie
+use Rattle.view.proofs.first_refusal.Reads as reads
+use Rattle.view.proofs.first_refusal.Lts as lts
+
+-- src/lib.rt:130:9
+returns : tie.Need-returns
+returns c = first-opened _ _ _ (search needs)
+
+-- src/lib.rt:133:9
+returns-2 : tie.Need-returns-2
+returns-2 c = first-skipped _ _ _ (search needs) (search needs)
+
+-- src/lib.rt:126:1
+returns-3 : tie.Need-returns-3
+returns-3 c = first-given _ _ _ (search needs) (search needs)
+
+pub first-refusal-spec : {M : Type 1} → statement M
+first-refusal-spec = tie.close (tie.spec returns returns-2 returns-3)

@@ -1,0 +1,22 @@
+-- `view::size_after` meets its contract: each of its three returns by its law. Assumes nothing.
+use borrow.Author.Needs.{needs}
+use Rattle.view.proofs.Refusals.{size-unopened, size-unskipped, size-kept}
+use Rattle.view.proofs.size_after.Statement.{statement}
+use Rattle.view.proofs.size_after.Tie as tie
+use Rattle.view.proofs.size_after.Reads as reads
+use Rattle.view.proofs.size_after.Lts as lts
+
+-- src/lib.rt:119:9
+returns : tie.Need-returns
+returns c = size-unopened _ _ _ (search needs)
+
+-- src/lib.rt:122:9
+returns-2 : tie.Need-returns-2
+returns-2 c = size-unskipped _ _ _ (search needs) (search needs)
+
+-- src/lib.rt:115:1
+returns-3 : tie.Need-returns-3
+returns-3 c = size-kept _ _ _ (search needs) (search needs)
+
+pub size-after-spec : {M : Type 1} → statement M
+size-after-spec = tie.close (tie.spec returns returns-2 returns-3)
