@@ -22,6 +22,15 @@
 use build::Appended;
 use build::Builder;
 use build::Created;
+use script::byte;
+use script::first;
+use script::number;
+use script::past;
+use script::rest;
+use script::say;
+use script::show;
+use script::show_byte;
+use script::show_size;
 ghost use mathlib.Core.Path.{_≡_};
 ghost use lib.ListN.{length};
 
@@ -41,12 +50,6 @@ struct State {
     view: usize,
     lent: Lent,
     builder: Builder,
-}
-
-// A number of the input, and the place after it.
-struct Taken {
-    value: usize,
-    next: usize,
 }
 
 // The rows of one command: what 2 is given; and the place after its numbers.
@@ -81,79 +84,7 @@ struct Cells {
     next: usize,
 }
 
-// ---- the input
-
-// The place n further on. It wraps, so that nothing is asked of the input.
-fn past(at: usize, n: usize) -> usize {
-    std::num::wrapping_add_usize(at, n)
-}
-
-// The byte at a place; 0 where there is none.
-fn byte(s: &[u8], at: usize) -> u8 {
-    if s.len() <= at {
-        return 0;
-    }
-    s[at]
-}
-
-fn number(s: &[u8], at: usize) -> Taken {
-    let first = byte(s, at);
-    if first < 255 {
-        return Taken {
-            value: first as usize,
-            next: past(at, 1),
-        };
-    }
-    let value = encode::low8([
-        byte(s, past(at, 1)),
-        byte(s, past(at, 2)),
-        byte(s, past(at, 3)),
-        byte(s, past(at, 4)),
-        byte(s, past(at, 5)),
-        byte(s, past(at, 6)),
-        byte(s, past(at, 7)),
-        byte(s, past(at, 8)),
-    ]);
-    Taken {
-        value: value as usize,
-        next: past(at, 9),
-    }
-}
-
-// The first n bytes, or all if there are fewer.
-fn first(s: &[u8], n: usize) -> &[u8] {
-    if s.len() < n {
-        return s;
-    }
-    &s[0..n]
-}
-
-// The bytes from a place on; from the end on none.
-fn from(s: &[u8], at: usize) -> &[u8] {
-    if s.len() < at {
-        return &s[0..0];
-    }
-    &s[at..]
-}
-
 // ---- writing
-
-fn say(text: &[u8]) {
-    io::write_all(1, text);
-}
-
-fn show(n: u64) {
-    say(b" ");
-    io::print_hex(1, n, 1);
-}
-
-fn show_size(n: usize) {
-    show(n as u64);
-}
-
-fn show_byte(n: u8) {
-    show(n as u64);
-}
 
 fn show_builder(b: Builder) {
     show_size(b.kind);
@@ -903,7 +834,7 @@ fn append(
     let at = rows.next;
     let n = rows.len;
     if rows.source == 0 {
-        let text = first(from(s, at), n);
+        let text = first(rest(s, at), n);
         let next = past(at, n);
         return append_shown(
             state,

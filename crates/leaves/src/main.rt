@@ -1,10 +1,6 @@
 // Runs the kinds and the run counts on chosen values, and writes a line for each: the input, and the bytes and numbers that the code gave. The file
 // stdout has what the format says of them.
-
-// ---- writing
-fn say(text: &[u8]) {
-    io::write_all(1, text);
-}
+use script::say;
 
 fn number(n: u64) {
     io::print_decimal(1, n);

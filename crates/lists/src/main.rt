@@ -2,21 +2,11 @@
 // inputs, and by a reading of its own of document 01 the answers (the file stdout).
 //
 // An input is its length, four bytes, how many of its bytes follow, two bytes, both lowest first, and these bytes. The rest of it is 0.
+use script::byte;
+use script::first;
+use script::past;
 ghost use mathlib.Core.Path.{_≡_};
 ghost use lib.ListN.{length};
-
-// The place n further on. It wraps, so that nothing is asked of the input.
-fn past(at: usize, n: usize) -> usize {
-    std::num::wrapping_add_usize(at, n)
-}
-
-// The byte at a place; 0 where there is none.
-fn byte(s: &[u8], at: usize) -> u8 {
-    if s.len() <= at {
-        return 0;
-    }
-    s[at]
-}
 
 // Four bytes as a number; two.
 fn four(s: &[u8], at: usize) -> usize {
@@ -64,7 +54,7 @@ fn list(s: &[u8], at: usize, room: &mut [u8]) -> usize {
     let n = two(s, past(at, 4));
     let from = past(at, 6);
     load(s, from, n, len, room);
-    printing::print(printing::first(room, len));
+    printing::print(first(room, len));
     past(from, n)
 }
 

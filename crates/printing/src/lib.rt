@@ -1,7 +1,9 @@
 // The listing program's calls on files: it prints what `listing` opens and the texts that `listing` makes. Rows are read one after
 // the other, so that a listing of any length needs the room of one row only.
+use script::first;
+use script::say;
 ghost use mathlib.Core.Path.{_≡_};
-ghost use lib.ListN.{length, take};
+ghost use lib.ListN.{length};
 ghost use Rattle.listing.specs.Descriptor.{inputOpened};
 ghost use Rattle.printing.specs.Printing.{refusalOf};
 use block::Opened;
@@ -25,20 +27,6 @@ pub fn print(input: &[u8]) -> u8
             number
         }
     }
-}
-
-// The first n elements; all of them where there are fewer.
-pub fn first(s: &[u8], n: usize) -> &[u8]
-    ensures { λ r. ⌜ now r ≡ take n (now (s .entry)) ⌝ }
-{
-    if s.len() <= n {
-        return s;
-    }
-    &s[..n]
-}
-
-fn say(text: &[u8]) {
-    io::write_all(1, text);
 }
 
 // A word and a number.

@@ -12,6 +12,14 @@
 // 7 lends the block at another length from here on: the length.
 use block::Opened;
 use block::Reader;
+use script::byte;
+use script::first;
+use script::number;
+use script::past;
+use script::say;
+use script::show;
+use script::show_byte;
+use script::show_size;
 ghost use mathlib.Core.Path.{_≡_};
 ghost use lib.ListN.{length};
 
@@ -22,71 +30,13 @@ struct State {
     reader: Reader,
 }
 
-// A number of the input, and the place after it.
-struct Taken {
-    value: usize,
-    next: usize,
-}
-
 // The place after a part of the block: in the input, and in the block.
 struct Places {
     at: usize,
     to: usize,
 }
 
-// ---- the input
-
-// The place n further on. It wraps, so that nothing is asked of the input.
-fn past(at: usize, n: usize) -> usize {
-    std::num::wrapping_add_usize(at, n)
-}
-
-// The byte at a place; 0 where there is none.
-fn byte(s: &[u8], at: usize) -> u8 {
-    if s.len() <= at {
-        return 0;
-    }
-    s[at]
-}
-
-fn number(s: &[u8], at: usize) -> Taken {
-    let first = byte(s, at);
-    if first < 255 {
-        return Taken {
-            value: first as usize,
-            next: past(at, 1),
-        };
-    }
-    let value = encode::low8([
-        byte(s, past(at, 1)),
-        byte(s, past(at, 2)),
-        byte(s, past(at, 3)),
-        byte(s, past(at, 4)),
-        byte(s, past(at, 5)),
-        byte(s, past(at, 6)),
-        byte(s, past(at, 7)),
-        byte(s, past(at, 8)),
-    ]);
-    Taken {
-        value: value as usize,
-        next: past(at, 9),
-    }
-}
-
 // ---- writing
-
-fn say(text: &[u8]) {
-    io::write_all(1, text);
-}
-
-fn show(n: u64) {
-    say(b" ");
-    io::print_hex(1, n, 1);
-}
-
-fn show_size(n: usize) {
-    show(n as u64);
-}
 
 fn show_reader(r: Reader) {
     show_size(r.kind);
@@ -105,10 +55,6 @@ fn show_reader(r: Reader) {
 }
 
 fn show_end(n: u32) {
-    show(n as u64);
-}
-
-fn show_byte(n: u8) {
     show(n as u64);
 }
 
@@ -137,14 +83,6 @@ fn show_bytes(s: &[u8]) {
 }
 
 // ---- blocks
-
-// The bytes of the block that are lent: its first n.
-fn lent(block: &[u8], n: usize) -> &[u8] {
-    if block.len() < n {
-        return block;
-    }
-    &block[0..n]
-}
 
 fn put(block: &mut [u8], to: usize, b: u8) {
     if to < block.len() {
@@ -296,7 +234,7 @@ fn open(s: &[u8], state: State, block: &[u8]) -> State {
     let encoding = number(s, kind.next);
     let width = number(s, encoding.next);
     let rows = number(s, width.next);
-    let bytes = lent(block, state.len);
+    let bytes = first(block, state.len);
     let answer = block::open(kind.value, encoding.value, width.value, rows.value, bytes);
     State {
         at: rows.next,
@@ -308,7 +246,7 @@ fn open(s: &[u8], state: State, block: &[u8]) -> State {
 fn skip(s: &[u8], state: State, block: &[u8]) -> State {
     let n = number(s, state.at);
     let reader = state.reader;
-    let answer = reader.skip(lent(block, state.len), n.value);
+    let answer = reader.skip(first(block, state.len), n.value);
     say(b"skip");
     show_byte(answer.number);
     let after = answer.reader;
@@ -401,7 +339,7 @@ fn batch(s: &[u8], state: State, block: &[u8]) -> State {
     let ends = number(s, flags.next);
     let bytes = number(s, ends.next);
     let reader = state.reader;
-    let part = lent(block, state.len);
+    let part = first(block, state.len);
     State {
         at: bytes.next,
         len: state.len,

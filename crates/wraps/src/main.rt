@@ -2,11 +2,7 @@
 // and writes a line for each call. The file stdout has what the definitions say of them.
 use build::Builder;
 use build::Created;
-
-// ---- writing
-fn say(text: &[u8]) {
-    io::write_all(1, text);
-}
+use script::say;
 
 fn number(n: u64) {
     say(b" ");

@@ -4,8 +4,8 @@ use std::hint::black_box;
 
 use idzulgar::calls::{self, Appended, Areas, BuilderRecord};
 use idzulgar::{Column, Encoding, Kind, Value};
+use oracle::model::{self, Chance};
 
-use crate::model::{self, Chance};
 use crate::reading::rows_of;
 use crate::{best, by_hand, count_second, counted, counted_in, text, COUNT_ROWS, NAMES};
 

@@ -10,8 +10,6 @@ use idzulgar::Value;
 
 mod building;
 mod by_hand;
-#[path = "../../../../idzulgar/tests/model/mod.rs"]
-mod model;
 mod reading;
 
 /// The five cases of the design.

@@ -6,9 +6,9 @@ use std::time::Instant;
 use bytes::Bytes;
 use idzulgar::calls::{self, ReaderRecord};
 use idzulgar::{Column, Encoding, Kind, Value};
+use oracle::model::Chance;
 use oracle::padded;
 
-use crate::model::Chance;
 use crate::{best, count_second, counted, text, COUNT_ROWS, NAMES};
 
 const ROUNDS: usize = 15;

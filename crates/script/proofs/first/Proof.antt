@@ -1,10 +1,10 @@
--- `first` meets its contract. Assumes nothing.
+-- `script::first` meets its contract. Assumes nothing.
 use borrow.Author.Needs.{needs}
 use native.Mathlib.Omega.{arith}
 use mathlib.Core.Path.{sym}
 use lib.Seq.{take-all, length-take-le}
-use Rattle.printing.proofs.first.Statement.{statement}
-use Rattle.printing.proofs.first.Tie as tie
+use Rattle.script.proofs.first.Statement.{statement}
+use Rattle.script.proofs.first.Tie as tie
 
 returns : tie.Need-returns
 returns c =
