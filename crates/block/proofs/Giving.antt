@@ -12,6 +12,7 @@ use lib.Seq.{sets, drop-at, length-sets}
 use borrow.Author.Tests.{lt-ltb, le-ltb, ltb-true, ltb-false}
 use Rattle.area.specs.Area.{over}
 use Rattle.area.proofs.Laws.{over-sets}
+use Rattle.encode.proofs.Bools.{or-none}
 use Rattle.encode.specs.Kinds.{widthOf}
 use Rattle.encode.specs.declared.Primitive.{Primitive}
 use Rattle.encode.specs.declared.Kind.{Kind}
@@ -137,9 +138,6 @@ or-right : (x y : Bool) → y ≡ true → (x || y) ≡ true
 or-right true y h = refl
 or-right false y h = h
 
-or-none : (x y : Bool) → x ≡ false → y ≡ false → (x || y) ≡ false
-or-none x y h q = rw (h, q)
-
 capped-below : (t : ℕ) → (capped t ≤ t) × (capped t ≤ 4294967296)
 unfolding capped
 capped-below t = go (ltb 4294967296 t) refl
@@ -205,7 +203,7 @@ module _ (p : Parts) (r : Reader) (b : List ℕ) (n : ℕ) {is : List ℕ} {t : 
           let marked : map presence rs ≡ map (flagBy (p .source) (marksIn p b) (itemsIn p b)) is = map-map presence _ _ (flag-by (p .source) (marksIn p b) (itemsIn p b)) is in
           let v : vs ≡ over (a .values) 0 (map intIn rs) = ev ∙ front (a .values) _ n (length-map is _ ∙ many) hv ∙ ap (over (a .values) 0) (sym ints) in
           let f : fs ≡ over (a .flags) 0 (map presence rs) = ef ∙ front (a .flags) _ n (length-map is _ ∙ many) hf ∙ ap (over (a .flags) 0) (sym marked) in
-          rw (v, f, eg) (alike (give-done k r rs at a (short-fixed ∙ or-none _ _ (le-ltb _ _ hf) (le-ltb _ _ hv)) ∙ of-rows a))
+          rw (v, f, eg) (alike (give-done k r rs at a (short-fixed ∙ or-none (le-ltb _ _ hf) (le-ltb _ _ hv)) ∙ of-rows a))
         where
           alike : given k r rs at a ≡ batchBy p r b a (stepsBy p r b n) → _≡_ {A = Batch} (record { answer = record { number = 0; rows = n; bytes = 0; reader = moved r n at }; areas = areas (over (a .values) 0 (map intIn rs)) (over (a .flags) 0 (map presence rs)) (a .ends) (a .bytes) }) (batchBy p r b a (stepsBy p r b n))
           alike q = rw long at (rw fixed at q)
@@ -248,7 +246,7 @@ module _ (p : Parts) (r : Reader) (b : List ℕ) (n : ℕ) {is : List ℕ} {t : 
             let y : bs ≡ over (a .bytes) 0 (joined bytesIn rs) = eb ∙ front (a .bytes) _ w (ap length (sym all) ∙ sym sum) hb ∙ ap (over (a .bytes) 0) (sym all) in
             let hb′ : length (joined bytesIn rs) ≤ length (a .bytes) = omega arith in
             let hw′ : length (joined bytesIn rs) ≤ 4294967295 = omega arith in
-            rw (f, e, y, eg) (alike sum (give-done k r rs at a (short-texts ∙ or-none _ _ (le-ltb _ _ hf) (or-none _ _ (or-none _ _ (le-ltb _ _ he) (le-ltb _ _ hb′)) (le-ltb _ _ hw′))) ∙ of-rows a))
+            rw (f, e, y, eg) (alike sum (give-done k r rs at a (short-texts ∙ or-none (le-ltb _ _ hf) (or-none (or-none (le-ltb _ _ he) (le-ltb _ _ hb′)) (le-ltb _ _ hw′))) ∙ of-rows a))
           where
             alike : w ≡ length (joined bytesIn rs) → given k r rs at a ≡ batchBy p r b a (stepsBy p r b n) → _≡_ {A = Batch} (record { answer = record { number = 0; rows = n; bytes = w; reader = moved r n at }; areas = areas (a .values) (over (a .flags) 0 (map presence rs)) (over (a .ends) 0 (endsFrom 0 (map bytesIn rs))) (over (a .bytes) 0 (joined bytesIn rs)) }) (batchBy p r b a (stepsBy p r b n))
             alike s q = rw s (rw long at (rw texts at q))

@@ -1,11 +1,11 @@
 -- What a record that doesn't contradict itself tells. Assumes nothing.
-use Prim.Native.Nat.{ℕ, _+_, _*_, _≤_}
-use native.Mathlib.Omega.{arith}
-use mathlib.Core.Path.{_≡_, refl, sym}
-use mathlib.Core.Bool.{Bool, true, false, not, _&&_, _||_}
+use Prim.Native.Nat.{_+_, _*_, _≤_}
+use mathlib.Core.Path.{_≡_}
+use mathlib.Core.Bool.{Bool, true, false, not, _&&_}
 use lib.Dec.{ltb, eqb}
 use borrow.Author.Tests.{ltb-false, eqb-true}
 use Rattle.encode.specs.declared.Kind.{Kind}
+pub use Rattle.encode.proofs.Bools.{neither, both, clash as apart}
 use Rattle.plain.specs.Plain.{leastBytes}
 use Rattle.nullable.specs.Nullable.{bitmapLength}
 use Rattle.format.specs.declared.Encoding.{Encoding}
@@ -15,20 +15,9 @@ use Rattle.block.specs.declared.Reader.{Reader}
 use Rattle.block.specs.Reading.{noRuns, partOutside, runsWrong, headWrong, wrong}
 
 -- ---- tests that all failed
-pub apart : {A : Type 0} → true ≡ false → A
-apart e = let z : _≡_ {A = ℕ} 0 1 = cc in absurd (omega arith)
-
-pub neither : (a b : Bool) → (a || b) ≡ false → (a ≡ false) × (b ≡ false)
-neither true b h = apart h
-neither false b h = (refl, h)
-
 pub not-both : (a b : Bool) → (not a && b) ≡ false → a ≡ false → b ≡ false
 not-both true b h e = apart e
 not-both false b h e = h
-
-pub both : (a b : Bool) → (a && b) ≡ true → (a ≡ true) × (b ≡ true)
-both true b h = (refl, h)
-both false b h = apart (sym h)
 
 -- ---- a record that is right
 pub record Right (k : Kind) (e : Encoding) (r : Reader) : Type 0 where

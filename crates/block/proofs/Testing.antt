@@ -12,9 +12,9 @@ use denote.Enum.Declared.{tagOf}
 use Rattle.encode.specs.declared.Kind.{Kind}
 use Rattle.encode.specs.declared.Kind.the-variants.{Fixed, Char, Blob}
 use Rattle.encode.specs.declared.Primitive.{Primitive}
-use Rattle.encode.specs.Kinds.{layoutOf, widthOf}
+use Rattle.encode.specs.Kinds.{widthOf}
 use Rattle.plain.specs.Plain.{leastBytes}
-use Rattle.plain.proofs.Numbers.{bytes-small}
+use Rattle.plain.proofs.Numbers.{width-few}
 use Rattle.nullable.specs.Nullable.{bitmapLength}
 use Rattle.format.specs.declared.Encoding.{Encoding}
 use Rattle.format.specs.declared.Encoding.the-variants.{Plain, Nullable, RunLength, RunLengthNullable, Dictionary}
@@ -25,9 +25,6 @@ use Rattle.block.specs.Reading.{noRuns, partOutside, runsWrong, headWron
 use Rattle.block.proofs.Record.{neither}
 
 -- ---- the bytes that items take at least
-width-few : (p : Primitive) {w : ℕ} → w ≡ widthOf p → w ≤ 255
-width-few p h = let b = bytes-small (layoutOf p .size) in omega arith
-
 product-few : (n w : ℕ) → n ≤ 1048576 → w ≤ 255 → n * w ≤ 267386880
 product-few n w h g = mul-le-mul h g
 

@@ -14,12 +14,12 @@ use Rattle.encode.specs.declared.Kind.the-variants.{Fixed, Char, Blob}
 use Rattle.encode.specs.declared.Primitive.{Primitive}
 use Rattle.encode.specs.Kinds.{layoutOf, widthOf}
 use Rattle.encode.proofs.Kind.{the-type as kind-type}
-use Rattle.plain.proofs.Numbers.{bytes-small}
+pub use Rattle.plain.proofs.Numbers.{width-few}
 use Rattle.nullable.specs.Nullable.{bitmapLength}
 use Rattle.format.specs.declared.Encoding.{Encoding}
 use Rattle.format.specs.declared.Encoding.the-variants.{Plain, Nullable, RunLength, RunLengthNullable, Dictionary}
 use Rattle.format.proofs.Encoding.{the-type}
-pub use Rattle.held.proofs.Bools.{or-first, or-then, or-none, neither, and-then, and-not, clash as apart}
+pub use Rattle.encode.proofs.Bools.{or-first, or-then, or-none, neither, and-then, and-not, clash as apart}
 use Rattle.build.specs.declared.Builder.{Builder}
 use Rattle.build.specs.declared.Room.{Room}
 use Rattle.build.specs.Needs.{coded, flagged, keyed, storedBy, plainBytes, innerBytes, runBytes, finishedBytes, countsPast, pastLimits, bytesWrong, recordWrong, fieldsShort, runsShort, short}
@@ -271,9 +271,6 @@ module _ (k : Kind) (e : Encoding) (r : Builder) {x : Bool} (q : x ≡ countsPas
   limits-bytes t h = or-then (sym q ∙ t) (ap (ltb 16777216) h)
 
 -- ---- item bytes
-pub width-few : (p : Primitive) {w : ℕ} → w ≡ widthOf p → w ≤ 255
-width-few p h = let b = bytes-small (layoutOf p .size) in omega arith
-
 module _ (k : Kind) (n len : ℕ) where
   pub fixed-few : n ≤ 1048576 → (p : Primitive) {w : ℕ} → w ≡ widthOf p → n * w ≤ 267386880
   fixed-few h p q = mul-le-mul h (width-few p q)

@@ -11,10 +11,11 @@ use lib.Dec.{eqb, lit<}
 use lib.ListN.{length, take, drop, getD, set, length-map, length-take, length-drop}
 use lib.Seq.{getD-set-same, getD-set-other, getD-take, getD-drop}
 use borrow.Author.Tests.{eqb-true, eqb-false, ne-eqb}
-use Rattle.plain.specs.Rows.{Row, null, int, bytes}
+use Rattle.plain.specs.Rows.{Row}
 use Rattle.plain.specs.Plain.{places}
 use Rattle.plain.proofs.Places.{over-add, over-same, getD-over}
 use Rattle.nullable.specs.Nullable.{bitmapLength, presence, byteOf, bitmapByte, bitmapOf, bitAt}
+use Rattle.nullable.proofs.Bits.{presence-small}
 use Rattle.slots.specs.Slots.{withBit, flagsWith}
 use Rattle.parts.specs.Parts.{heldByte, heldBitmap}
 use Rattle.built.proofs.Lists.{length-snoc}
@@ -87,12 +88,6 @@ module _ (flags : List ℕ) (i bit : ℕ) (room : i / 8 < length flags) where
           rw (q, getD-set-same flags (i / 8) (withBit b (i % 8) bit) 0 room)
           (other-bit b (i % 8) bit (j % 8) l ∙ ap (λ (m : ℕ). m / 2 ^ (j % 8) % 2) c)
       go false e = ap (λ (m : ℕ). m / 2 ^ (j % 8) % 2) (getD-set-other flags (i / 8) (j / 8) (withBit b (i % 8) bit) 0 (eqb-false (j / 8) (i / 8) e))
-
-pub presence-small : (r : Row) → presence r < 2
-unfolding presence
-presence-small null = omega arith
-presence-small (int v) = omega arith
-presence-small (bytes bs) = omega arith
 
 -- the first flags are those of the stored items
 pub flag-slots : (item : Bool) (x : Row) (s s′ : List Row) (n : ℕ) (flags : List ℕ) → s′ ≡ cond item (s ++ (x ∷ [])) s → n ≡ length s

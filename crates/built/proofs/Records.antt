@@ -8,6 +8,7 @@ use mathlib.Core.Path.{_≡_, refl, sym, ap, _∙_}
 use lib.Dec.{ltb, leb}
 use lib.ListN.{length, length-map}
 use borrow.Author.Tests.{lt-ltb, le-ltb, leb-true, leb-false, eq-eqb, ne-eqb}
+use Rattle.encode.proofs.Bools.{or-none}
 use Rattle.encode.specs.Kinds.{widthOf}
 use Rattle.encode.specs.declared.Kind.{Kind}
 use Rattle.encode.specs.declared.Kind.the-variants.{Fixed, Char, Blob}
@@ -187,9 +188,6 @@ counts-small k Dictionary rows =
     let b = dictionary-length k rows in
     omega arith
 
-neither : (a b : Bool) → a ≡ false → b ≡ false → (a || b) ≡ false
-neither a b p q = rw (p, q)
-
 and-never : (t u : Bool) → u ≡ false → (t && u) ≡ false
 and-never true u h = h
 and-never false u h = refl
@@ -199,8 +197,8 @@ module _ (k : Kind) (e : Encoding) (rows : List Row) (r : Builder) (h : Recorded
   unfolding recordWrong
   record-right f w =
       let c : r .counts ≤ 16777216 = omega (arith, h .counts, counts-small k e rows, within-told k e rows w .block) in
-      neither _ _
-      (neither _ _
+      or-none
+      (or-none
       (and-never (coded e) (ltb 16777216 (r .counts)) (le-ltb 16777216 (r .counts) c))
       (rw (stored-by k rows r e h, h .bytes) (bytes-right k (storedRows e rows) f)))
       (past-limits k rows r e h ∙ ap not w)
@@ -220,12 +218,12 @@ pub room-enough : (k : Kind) (e : Encoding) (rows : List Row) (r : Builder) (a :
 unfolding short runsShort roomOf
 room-enough k e rows r a h g =
     let n = stored-by k rows r e h in
-    neither _ _
-    (neither _ _
-    (neither _ _
+    or-none
+    (or-none
+    (or-none
     (le-ltb (length (a .items)) (r .bytes) (omega (arith, h .bytes, g .items)))
     (rw n (fields-long k (length (storedRows e rows)) a (g .ends) (g .lens))))
     (rw n (if-long (flagged e) (bitmapLength (length (storedRows e rows))) (length (a .flags)) (g .flags))))
-    (neither _ _
+    (or-none
     (and-never (coded e) (ltb (length (a .counts)) (r .runs)) (le-ltb (length (a .counts)) (r .runs) (omega (arith, h .runs, g .counts))))
     (rw (h .runs) (if-long (keyed e) (length (storedRuns e rows)) (length (a .keys)) (g .keys))))

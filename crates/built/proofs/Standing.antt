@@ -1,20 +1,21 @@
 -- A builder and its lent areas that stand as a list of appended rows left them: at creation, and after each append. Assumes nothing.
-use Prim.Native.Nat.{ℕ, _+_, _-_}
+use Prim.Native.Nat.{ℕ}
 use mathlib.Core.Bool.{true, false, cond, not}
 use mathlib.Core.List.{List, [], _∷_, _++_}
 use mathlib.Core.Path.{_≡_, refl}
 use Rattle.encode.specs.declared.Kind.{Kind}
 use Rattle.encode.specs.declared.Kind.the-variants.{Fixed, Char, Blob}
 use Rattle.plain.specs.Rows.{Row, fits}
-use Rattle.plain.specs.Plain.{joined, places, endsFrom, plainOf}
-use Rattle.nullable.specs.Nullable.{bitmapLength, presence, bitmapOf, nullableOf}
-use Rattle.rle.specs.RunLength.{runsOf, countsOf, runLengthOf}
-use Rattle.dict.specs.Dictionary.{entriesAfter, entriesOf, keyBlockOf, dictionaryOf}
+use Rattle.plain.specs.Plain.{joined, places, endsFrom}
+use Rattle.nullable.specs.Nullable.{presence}
+use Rattle.rle.specs.RunLength.{runsOf, countsOf}
+use Rattle.dict.specs.Dictionary.{entriesAfter, entriesOf}
 use Rattle.format.specs.declared.Encoding.{Encoding}
 use Rattle.format.specs.declared.Encoding.the-variants.{Plain, Nullable, RunLength, RunLengthNullable, Dictionary}
 use Rattle.format.specs.declared.Column.the-variants.{Of}
-use Rattle.format.specs.Blocks.{columnOf, blockOf}
-use Rattle.format.specs.Sizes.{runRows, keysOf, storedItems, storedEntries, withinLimits}
+use Rattle.format.specs.Blocks.{columnOf}
+use Rattle.format.specs.Sizes.{runRows, keysOf, storedEntries, withinLimits}
+use Rattle.format.proofs.Within.{none-within}
 use Rattle.build.specs.declared.Builder.{Builder}
 use Rattle.build.specs.Needs.{Areas, recordWrong}
 use Rattle.build.specs.Building.{empty, grown, appendOf, counted, appendedBy, appendedAs, appendedIn, appended}
@@ -62,20 +63,6 @@ unfolding endsFrom
 none-held (Fixed p) es ls = (tt, tt)
 none-held (Char w) es ls = (tt, refl)
 none-held Blob es ls = (refl, tt)
-
-no-bytes : (k : Kind) → plainOf k [] ≡ []
-unfolding plainOf joined endsFrom
-no-bytes (Fixed p) = refl
-no-bytes (Char w) = refl
-no-bytes Blob = refl
-
-none-within : (k : Kind) (e : Encoding) → withinLimits k e [] ≡ true
-unfolding withinLimits storedItems storedEntries blockOf nullableOf bitmapOf bitmapLength places runLengthOf runsOf dictionaryOf keyBlockOf keysOf entriesOf entriesAfter
-none-within k Plain = rw (no-bytes k)
-none-within k Nullable = rw (no-bytes k)
-none-within k RunLength = refl
-none-within k RunLengthNullable = refl
-none-within k Dictionary = rw (no-bytes k)
 
 module _ (kind encoding width target : ℕ) (k : Kind) (e : Encoding) where
   none-recorded : Recorded k e [] (empty kind encoding width target)

@@ -13,6 +13,7 @@ use mir.Syntax.{w32}
 use mir.Val.{toZ}
 use mir.Facts.{toZ-pos, toZ-neg}
 use borrow.Author.Tests.{ltb-true, ltb-false, le-ltb, le-leb, lt-leb, leb-true}
+use Rattle.encode.proofs.Bools.{both}
 use Rattle.encode.specs.Bytes.{number}
 use Rattle.plain.specs.Rows.{intIn}
 use Rattle.plain.specs.Plain.{places, plainRow, fixedAt}
@@ -93,10 +94,6 @@ module _ {entries : ℕ} {keys : List ℕ} {n i : ℕ} (c : Looking entries keys
   looking-end h = let m : n - i ≡ 0 = omega arith in rw m at (c .same)
 
 -- ---- what it says of each key
-both : (s t : Bool) → s && t ≡ true → (s ≡ true) × (t ≡ true)
-both true t e = (refl, e)
-both false t e = (e, let z : false ≡ true = e in cc)
-
 pub known-at :
     (entries : ℕ) (keys : List ℕ) (n j k : ℕ) → known entries keys (places n j) ≡ true → k < n → slotAt keys (j + k) ≤ entries
 unfolding known places

@@ -1,5 +1,7 @@
+pub mod Bools
 pub mod Signs
 pub mod Cells
 pub mod ByKind
 pub mod ByNumber
 pub mod RoundTrip
+pub mod Widths

@@ -1,10 +1,9 @@
 -- Rules one after another, and the answer that a number gives. Assumes nothing.
 use Prim.Native.Nat.{ℕ, zero, suc, _<_}
 use native.Mathlib.Omega.{arith}
-use mathlib.Core.Bool.{Bool, true, false}
 use mathlib.Core.List.{List, [], _∷_}
 use mathlib.Core.Path.{_≡_, refl}
-use Rattle.plain.specs.Rules.{_if_, firstOf}
+use Rattle.plain.specs.Rules.{firstOf}
 use Rattle.format.specs.declared.Found.the-variants.{Sound, Refused}
 use Rattle.format.specs.Opening.{Head}
 use Rattle.format.specs.Found.{foundBy}
@@ -24,16 +23,6 @@ broken-first (suc e) es h = refl
 pub kept-first : {e : ℕ} (es : List ℕ) → e ≡ 0 → firstOf (e ∷ es) ≡ firstOf es
 unfolding firstOf
 kept-first es h = rw h
-
--- none is broken
-pub kept : (e : ℕ) (es : List ℕ) → firstOf (e ∷ es) ≡ 0 → (e ≡ 0) × (firstOf es ≡ 0)
-unfolding firstOf
-kept zero es h = (refl, h)
-kept (suc e) es h = absurd (omega arith)
-
-pub whole : (e : ℕ) (t : Bool) → 0 < e → e if t ≡ 0 → t ≡ false
-whole e true p h = absurd (omega arith)
-whole e false p h = refl
 
 -- two rules taken as one
 pub two-first : (x y z : ℕ) → firstOf (x ∷ y ∷ z ∷ []) ≡ firstOf (firstOf (x ∷ y ∷ []) ∷ z ∷ [])

@@ -6,3 +6,4 @@ pub mod KeyBlocks
 pub mod Dictionaries
 pub mod ByEncoding
 pub mod Forms
+pub mod Within

@@ -9,6 +9,7 @@ use lib.Dec.{ltb}
 use lib.ListN.{length}
 use borrow.Author.Tests.{le-ltb, ltb-false, not-false}
 use Rattle.encode.specs.declared.Kind.{Kind}
+use Rattle.plain.proofs.Rules.{kept, whole}
 use Rattle.plain.specs.Rules.{_if_, firstOf}
 use Rattle.plain.specs.Plain.{places, plainNumber}
 use Rattle.nullable.specs.Nullable.{nullableNumber}
@@ -23,7 +24,7 @@ use Rattle.format.specs.declared.Encoding.{Encoding}
 use Rattle.format.specs.declared.Encoding.the-variants.{Plain, Nullable, RunLength, RunLengthNullable, Dictionary}
 use Rattle.format.specs.declared.Column.the-variants.{Of}
 use Rattle.format.specs.Opening.{rulesOf, mostRows, columnNumber, headOf}
-use Rattle.format.proofs.Answers.{first-one, kept, whole}
+use Rattle.format.proofs.Answers.{first-one}
 
 -- ---- the limits, and the rules behind them
 pub record Within (k : Kind) (e : Encoding) (n : ℕ) (b : List ℕ) : Type 0 where

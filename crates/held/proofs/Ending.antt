@@ -9,7 +9,7 @@ use lib.ListN.{getD}
 use borrow.Author.Tests.{lt-ltb, le-ltb, eq-eqb, ne-eqb}
 use Rattle.encode.specs.declared.Kind.the-variants.{Blob}
 use Rattle.held.specs.Held.{held, endIn, startIn, fieldWrong}
-use Rattle.held.proofs.Bools.{or-first, or-then, or-none, and-then, and-not}
+use Rattle.encode.proofs.Bools.{or-first, or-then, or-none, and-then, and-not}
 
 pub start-none : (ends : List ℕ) (i : ℕ) → i ≡ 0 → 0 ≡ startIn ends i
 unfolding startIn

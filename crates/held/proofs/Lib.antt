@@ -1,4 +1,3 @@
-pub mod Bools
 pub mod Ending
 pub mod Walking
 pub mod Alike

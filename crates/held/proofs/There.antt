@@ -21,7 +21,7 @@ use Rattle.held.specs.declared.Looked.the-variants.{Entry}
 use Rattle.held.specs.Held.{Held, held, endIn, startIn, heldRow, fieldWrong, lookUp}
 use Rattle.held.specs.Asking.{FieldsThere, BytesThere, ItemThere}
 use Rattle.held.specs.First.{firstValue}
-use Rattle.held.proofs.Bools.{neither}
+use Rattle.encode.proofs.Bools.{neither}
 use Rattle.held.proofs.Walking.{up-alike, up-first}
 
 -- ---- an item whose fields are good is there

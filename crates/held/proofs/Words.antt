@@ -12,8 +12,6 @@ use lib.IntN.{ℤ}
 use lib.ListN.{length, take, drop, getD, length-drop, length-reverse}
 use lib.Seq.{drop-cons, length-take-le}
 use lib.Signed.{mag}
-use types.Run.{OneOf, miss}
-use denote.Enum.Declared.{tagOf}
 use store.Enc.{two-256}
 use mir.Syntax.{Width, w64}
 use mir.Val.{Fits, ofZ, toZ, bytes, hbits}
@@ -22,13 +20,12 @@ use Rattle.encode.specs.Bytes.{Order, low-first, high-first, little, bytesOf, n
 use Rattle.encode.specs.Kinds.{Reading, truth, signed, layoutOf, widthOf, trueOrFalse, numberAs, takesAs, encoded, decoded, takes}
 use Rattle.encode.specs.declared.Primitive.{Primitive}
 use Rattle.encode.specs.declared.Primitive.the-variants.{Bool as Boolean, I16, I32, I64, Date, Timestamp, TimestampTz, Interval}
-use Rattle.encode.proofs.Primitive.{the-type}
 use Rattle.encode.proofs.RoundTrip.{round-trip, item-length, item-whole}
 use Rattle.plain.specs.Rows.{sameInt}
 use Rattle.plain.specs.Plain.{fixedAt}
 use Rattle.plain.proofs.Items.{item-room, take-item}
 use Rattle.held.specs.First.{firstAt, firstValue, firstNumber}
-use Rattle.held.proofs.Bools.{clash}
+use Rattle.encode.proofs.Bools.{clash}
 use Rattle.held.proofs.Alike.{int-same, int-other}
 use Rattle.held.proofs.Walking.{Passed, passed-start, passed-stop, passed-step, passed-end, first-here, first-later, first-alike, first-none}
 
@@ -241,24 +238,3 @@ bool-found p items n v q t {item} {r} e c =
     let z : b + 256 * 0 ≡ b = omega arith in
     let x : trueOrFalse (not (eqb (getD item 0 0) 0)) ≡ v = ap trueOrFalse (nonzero (getD item 0 0) ∙ ap (ltb 0) (i ∙ sym z)) ∙ w in
     c ∙ ap (firstValue Boolean items n) x ∙ ap (λ (k : Primitive). firstValue k items n v) (sym q)
-
--- ---- the widths that the arms name
-pub four-wide : (p : Primitive) → OneOf (2 ∷ 4 ∷ []) (tagOf the-type p) → widthOf p ≡ 4
-four-wide Boolean h = absurd (miss (2 ∷ 4 ∷ []) 0 tt h)
-four-wide I16 h = absurd (miss (2 ∷ 4 ∷ []) 1 tt h)
-four-wide I32 h = refl
-four-wide I64 h = absurd (miss (2 ∷ 4 ∷ []) 3 tt h)
-four-wide Date h = refl
-four-wide Timestamp h = absurd (miss (2 ∷ 4 ∷ []) 5 tt h)
-four-wide TimestampTz h = absurd (miss (2 ∷ 4 ∷ []) 6 tt h)
-four-wide Interval h = absurd (miss (2 ∷ 4 ∷ []) 7 tt h)
-
-pub eight-wide : (p : Primitive) → OneOf (3 ∷ 5 ∷ 6 ∷ 7 ∷ []) (tagOf the-type p) → widthOf p ≡ 8
-eight-wide Boolean h = absurd (miss (3 ∷ 5 ∷ 6 ∷ 7 ∷ []) 0 tt h)
-eight-wide I16 h = absurd (miss (3 ∷ 5 ∷ 6 ∷ 7 ∷ []) 1 tt h)
-eight-wide I32 h = absurd (miss (3 ∷ 5 ∷ 6 ∷ 7 ∷ []) 2 tt h)
-eight-wide I64 h = refl
-eight-wide Date h = absurd (miss (3 ∷ 5 ∷ 6 ∷ 7 ∷ []) 4 tt h)
-eight-wide Timestamp h = refl
-eight-wide TimestampTz h = refl
-eight-wide Interval h = refl

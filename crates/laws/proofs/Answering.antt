@@ -4,13 +4,14 @@ use native.Mathlib.Nat.{min-le-right, min-eq-left, min-eq-right}
 use native.Mathlib.Omega.{arith}
 use mathlib.Core.Bool.{Bool, true, false, cond}
 use mathlib.Core.List.{List, [], _∷_, map}
-use mathlib.Core.Logic.{_⊎_, inl, inr, ⊎-elim}
+use mathlib.Core.Logic.{⊎-elim}
 use mathlib.Core.Path.{_≡_, refl, sym, ap, _∙_}
-use lib.Dec.{ltb, eqb}
+use lib.Dec.{eqb}
 use lib.ListN.{length, take, drop, length-map}
 use lib.Seq.{take-all, length-take-le}
-use borrow.Author.Tests.{lt-ltb, le-ltb, eq-eqb, ne-eqb, ltb-true, ltb-false, eqb-true, eqb-false}
+use borrow.Author.Tests.{lt-ltb, le-ltb, eq-eqb, ne-eqb, eqb-true, eqb-false}
 use Rattle.encode.specs.declared.Kind.{Kind}
+use Rattle.area.proofs.Laws.{lt-or-ge}
 use Rattle.plain.specs.Rows.{Row, bytesIn}
 use Rattle.plain.specs.Plain.{joined}
 use Rattle.rle.specs.Stepping.{rows}
@@ -37,13 +38,6 @@ module _ {A B : Type 0} (f : A → B) where
   map-take zero l = refl
   map-take (suc n) [] = refl
   map-take (suc n) (x ∷ l) = ap (λ (m : List B). f x ∷ m) (map-take n l)
-
-lt-or-ge : (a b : ℕ) → (a < b) ⊎ (b ≤ a)
-lt-or-ge a b = go (ltb a b) refl
-  where
-    go : (t : Bool) → ltb a b ≡ t → (a < b) ⊎ (b ≤ a)
-    go true e = inl (ltb-true a b e)
-    go false e = inr (ltb-false a b e)
 
 take-least : {A : Type 0} (n : ℕ) (l : List A) → take (min n (length l)) l ≡ take n l
 take-least n l = ⊎-elim

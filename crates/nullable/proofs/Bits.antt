@@ -27,7 +27,7 @@ unfolding bitmapOf
 length-bitmap rows = length-over (bitmapByte rows) (bitmapLength (length rows)) 0
 
 -- ---- a bit of a byte
-presence-small : (r : Row) → presence r < 2
+pub presence-small : (r : Row) → presence r < 2
 unfolding presence
 presence-small null = omega arith
 presence-small (int v) = omega arith

@@ -1,3 +1,4 @@
+pub mod Rules
 pub mod Cells
 pub mod Places
 pub mod Items

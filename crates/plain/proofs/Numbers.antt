@@ -10,7 +10,7 @@ use lib.Dec.{ltb, leb, eqb}
 use lib.ListN.{length}
 use mir.Syntax.{Width, w8, w16, w32, w64, w128}
 use mir.Val.{bytes}
-use Rattle.encode.specs.Kinds.{widthOf}
+use Rattle.encode.specs.Kinds.{layoutOf, widthOf}
 use Rattle.encode.specs.declared.Primitive.{Primitive}
 use Rattle.encode.specs.declared.Kind.{Kind}
 use Rattle.encode.specs.declared.Kind.the-variants.{Fixed, Char, Blob}
@@ -24,6 +24,9 @@ bytes-small w16 = omega arith
 bytes-small w32 = omega arith
 bytes-small w64 = omega arith
 bytes-small w128 = omega arith
+
+pub width-few : (p : Primitive) {w : ℕ} → w ≡ widthOf p → w ≤ 255
+width-few p h = let b = bytes-small (layoutOf p .size) in omega arith
 
 pub product-small : (n w : ℕ) → n ≤ 1048576 → w < 256 → n * w ≤ 1048576 * 256
 product-small n w h k = let l : w ≤ 256 = omega arith in mul-le-mul h l

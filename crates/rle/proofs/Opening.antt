@@ -9,6 +9,7 @@ use lib.ListN.{length, take, drop}
 use borrow.Author.Tests.{lt-ltb, le-ltb, eq-eqb, ne-eqb, ltb-false, eqb-true, eqb-false, not-false}
 use Rattle.encode.specs.Bytes.{number}
 use Rattle.plain.specs.Rules.{_if_, firstOf}
+use Rattle.plain.proofs.Rules.{kept, whole}
 use Rattle.rle.specs.declared.Walked.{Walked}
 use Rattle.rle.specs.declared.Walked.the-variants.{Total, Refused as WalkRefused}
 use Rattle.rle.specs.declared.Head.{Head}
@@ -59,16 +60,6 @@ pub record Sound (n : ℕ) (b : List ℕ) (runs counts : ℕ) : Type 0 where
   pub runs-read : runs ≡ runsIn b
   pub counts-read : counts ≡ countsLength b
   pub sum : walked runs (countsPart counts b) ≡ Total n
-
--- a rule that is kept, and the rules behind it
-kept : (e : ℕ) (es : List ℕ) → firstOf (e ∷ es) ≡ 0 → (e ≡ 0) × (firstOf es ≡ 0)
-unfolding firstOf
-kept zero es h = (refl, h)
-kept (suc e) es h = absurd (omega arith)
-
-whole : (e : ℕ) (t : Bool) → 0 < e → e if t ≡ 0 → t ≡ false
-whole e true p h = absurd (omega arith)
-whole e false p h = refl
 
 total : (n : ℕ) (w : Walked) → Told w → walkNumber n w ≡ 0 → w ≡ Total n
 unfolding walkNumber

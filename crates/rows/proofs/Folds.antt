@@ -6,17 +6,13 @@ use mathlib.Core.Bool.{Bool, true, false, _&&_, and-assoc, and-false}
 use mathlib.Core.List.{List, [], _∷_, _++_, append-assoc, map}
 use mathlib.Core.Path.{_≡_, refl, sym}
 use lib.ListN.{length, replicate, length-append}
+pub use Rattle.encode.proofs.Bools.{both}
 use Rattle.area.specs.Area.{repeats, climbs}
 use Rattle.plain.specs.Plain.{allOf, joined, endsFrom}
 pub use Rattle.plain.proofs.Ends.{length-ends}
 use Rattle.rows.specs.Rows.{sumOf}
 
 -- ---- a test of each
--- both parts of a test that holds
-pub both : (a b : Bool) → (a && b) ≡ true → (a ≡ true) × (b ≡ true)
-both true b h = (refl, h)
-both false b h = let z : _≡_ {A = ℕ} 0 1 = cc in absurd (omega arith)
-
 module _ (p : ℕ → Bool) where
   pub all-append : (is js : List ℕ) → allOf p (is ++ js) ≡ (allOf p is && allOf p js)
   unfolding allOf

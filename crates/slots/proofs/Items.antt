@@ -3,9 +3,8 @@ use Prim.Native.Nat.{ℕ, _+_, _-_, _≤_}
 use native.Mathlib.Omega.{arith}
 use borrow.Author.Tests.{leb-true}
 use mathlib.Core.Bool.{Bool, true, false, cond}
-use mathlib.Core.List.{List, [], _∷_, _++_}
+use mathlib.Core.List.{List, _++_}
 use mathlib.Core.Path.{_≡_, refl, sym, ap, _∙_}
-use denote.Enum.Declared.{tagOf}
 use lib.Dec.{leb}
 use lib.IntN.{ℤ}
 use lib.ListN.{length, take, drop, replicate, length-append, length-replicate}
@@ -13,14 +12,11 @@ use lib.Seq.{sets, take-length}
 use mir.Facts.{toZ-ofZ}
 use mir.Syntax.{w64}
 use mir.Val.{SFits, ofZ, toZ}
-use types.Run.{OneOf, miss}
 use Rattle.encode.specs.Bytes.{inEight}
 use Rattle.encode.specs.Kinds.{widthOf, defaultValue, encoded, takes}
 use Rattle.encode.specs.declared.Primitive.{Primitive}
-use Rattle.encode.specs.declared.Primitive.the-variants.{Bool as Boolean, I16, I32, I64, Date, Timestamp, TimestampTz, Interval}
 use Rattle.encode.specs.declared.Kind.{Kind}
 use Rattle.encode.specs.declared.Kind.the-variants.{Fixed, Char, Blob}
-use Rattle.encode.proofs.Primitive.{the-type}
 use Rattle.encode.proofs.RoundTrip.{item-length, item-whole}
 use Rattle.area.specs.Area.{over}
 use Rattle.area.proofs.Laws.{over-sets, over-none, sets-append}
@@ -77,26 +73,6 @@ module _ (k : Kind) (present : Bool) (v : ℤ) (bs : List ℕ) where
   blob-long e h = rw e h
 
 -- ---- the first bytes of an encoded item
-pub four-wide : (p : Primitive) → OneOf (2 ∷ 4 ∷ []) (tagOf the-type p) → widthOf p ≡ 4
-four-wide Boolean h = absurd (miss (2 ∷ 4 ∷ []) 0 tt h)
-four-wide I16 h = absurd (miss (2 ∷ 4 ∷ []) 1 tt h)
-four-wide I32 h = refl
-four-wide I64 h = absurd (miss (2 ∷ 4 ∷ []) 3 tt h)
-four-wide Date h = refl
-four-wide Timestamp h = absurd (miss (2 ∷ 4 ∷ []) 5 tt h)
-four-wide TimestampTz h = absurd (miss (2 ∷ 4 ∷ []) 6 tt h)
-four-wide Interval h = absurd (miss (2 ∷ 4 ∷ []) 7 tt h)
-
-pub eight-wide : (p : Primitive) → OneOf (3 ∷ 5 ∷ 6 ∷ 7 ∷ []) (tagOf the-type p) → widthOf p ≡ 8
-eight-wide Boolean h = absurd (miss (3 ∷ 5 ∷ 6 ∷ 7 ∷ []) 0 tt h)
-eight-wide I16 h = absurd (miss (3 ∷ 5 ∷ 6 ∷ 7 ∷ []) 1 tt h)
-eight-wide I32 h = absurd (miss (3 ∷ 5 ∷ 6 ∷ 7 ∷ []) 2 tt h)
-eight-wide I64 h = refl
-eight-wide Date h = absurd (miss (3 ∷ 5 ∷ 6 ∷ 7 ∷ []) 4 tt h)
-eight-wide Timestamp h = refl
-eight-wide TimestampTz h = refl
-eight-wide Interval h = refl
-
 module _ {w n : ℕ} (e : w ≡ n) where
   pub wide-room : (at m : ℕ) → at + w ≤ m → at + n ≤ m
   wide-room at m h = rw e at h

@@ -2,22 +2,17 @@
 use Prim.Native.Nat.{_≤_}
 use mathlib.Core.Bool.{Bool, true, _&&_, and-eq-true-iff}
 use mathlib.Core.List.{List, [], _∷_, _++_, append-nil}
-use mathlib.Core.Path.{_≡_, refl}
+use mathlib.Core.Path.{_≡_}
 use lib.Dec.{leb}
 use lib.ListN.{length}
 use lib.Seq.{append-snoc}
 use borrow.Author.Tests.{leb-true}
 use Rattle.encode.specs.declared.Kind.{Kind}
-use Rattle.encode.specs.declared.Kind.the-variants.{Fixed, Char, Blob}
 use Rattle.plain.specs.Rows.{Row, fits}
-use Rattle.plain.specs.Plain.{joined, places, endsFrom, plainOf}
-use Rattle.nullable.specs.Nullable.{bitmapLength, bitmapOf, nullableOf}
-use Rattle.rle.specs.RunLength.{runsOf, runLengthOf}
-use Rattle.dict.specs.Dictionary.{entriesAfter, entriesOf, keyBlockOf, dictionaryOf}
 use Rattle.format.specs.declared.Encoding.{Encoding}
-use Rattle.format.specs.declared.Encoding.the-variants.{Plain, Nullable, RunLength, RunLengthNullable, Dictionary}
 use Rattle.format.specs.Blocks.{blockOf}
-use Rattle.format.specs.Sizes.{keysOf, storedItems, storedEntries, withinLimits, acceptedAfter, accepted}
+use Rattle.format.specs.Sizes.{storedItems, storedEntries, withinLimits, acceptedAfter, accepted}
+use Rattle.format.proofs.Within.{none-within}
 use Rattle.stored.proofs.Lists.{Each}
 use Rattle.stored.proofs.Plains.{Fits}
 
@@ -59,25 +54,6 @@ module _ (k : Kind) (e : Encoding) where
       let x = and-eq-true-iff (fits k r && withinLimits k e (done ++ (r ∷ []))) (acceptedAfter k e (done ++ (r ∷ [])) rows) .0 h in
       let y = and-eq-true-iff (fits k r) (withinLimits k e (done ++ (r ∷ []))) .0 (x .0) in
       rw (append-snoc done r rows) at (after-within (done ++ (r ∷ [])) rows (y .1) (x .1))
-
--- no rows are within the limits
-none-within : (k : Kind) (e : Encoding) → withinLimits k e [] ≡ true
-unfolding withinLimits storedItems storedEntries blockOf plainOf joined endsFrom nullableOf bitmapOf bitmapLength places runsOf runLengthOf keysOf entriesOf entriesAfter keyBlockOf dictionaryOf
-none-within (Fixed p) Plain = refl
-none-within (Fixed p) Nullable = refl
-none-within (Fixed p) RunLength = refl
-none-within (Fixed p) RunLengthNullable = refl
-none-within (Fixed p) Dictionary = refl
-none-within (Char w) Plain = refl
-none-within (Char w) Nullable = refl
-none-within (Char w) RunLength = refl
-none-within (Char w) RunLengthNullable = refl
-none-within (Char w) Dictionary = refl
-none-within Blob Plain = refl
-none-within Blob Nullable = refl
-none-within Blob RunLength = refl
-none-within Blob RunLengthNullable = refl
-none-within Blob Dictionary = refl
 
 module _ (k : Kind) (e : Encoding) (rows : List Row) (h : accepted k e rows ≡ true) where
   pub accepted-fits : Each (Fits k) rows

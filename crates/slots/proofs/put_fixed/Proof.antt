@@ -2,7 +2,8 @@
 use borrow.Author.Needs.{needs}
 use mathlib.Core.Path.{ap}
 use Rattle.encode.specs.Kinds.{widthOf}
-use Rattle.slots.proofs.Items.{wide-room, wide-put, four-wide, eight-wide}
+use Rattle.encode.proofs.Widths.{four-wide, eight-wide}
+use Rattle.slots.proofs.Items.{wide-room, wide-put}
 use Rattle.slots.proofs.put_fixed.Statement.{statement}
 use Rattle.slots.proofs.put_fixed.Tie as tie
 

@@ -12,7 +12,8 @@ use mir.Facts.{toZ-ofZ}
 use Rattle.encode.specs.Bytes.{number, inEight}
 use Rattle.encode.specs.Kinds.{widthOf, encoded, takes}
 use Rattle.held.specs.First.{firstValue, firstNumber}
-use Rattle.held.proofs.Words.{first-untaken, word-found, bool-found, four-wide, eight-wide}
+use Rattle.held.proofs.Words.{first-untaken, word-found, bool-found}
+use Rattle.encode.proofs.Widths.{four-wide, eight-wide}
 use Rattle.held.proofs.finding.find_fixed.Statement.{statement}
 use Rattle.held.proofs.finding.find_fixed.Tie as tie
 

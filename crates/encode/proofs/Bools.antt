@@ -20,6 +20,10 @@ pub neither : (a b : Bool) → (a || b) ≡ false → (a ≡ false) × (b ≡ fa
 neither true b h = clash h
 neither false b h = (refl, h)
 
+pub both : (a b : Bool) → (a && b) ≡ true → (a ≡ true) × (b ≡ true)
+both true b h = (refl, h)
+both false b h = clash (sym h)
+
 pub and-then : {x a : Bool} (p : Bool) → x ≡ a → x ≡ true → p ≡ (a && p)
 and-then {x} {a} p h t = subst (λ (y : Bool). p ≡ (y && p)) (sym t ∙ h) refl
 
