@@ -6,6 +6,7 @@ use mathlib.Core.List.{List, [], map}
 use lib.IntN.{ℤ}
 use lib.ListN.{length, take, drop}
 use Rattle.encode.specs.declared.Kind.{Kind}
+use Rattle.encode.specs.declared.Kind.the-variants.{Char}
 use Rattle.plain.specs.Plain.{allOf}
 use Rattle.nullable.specs.Nullable.{bitmapLength}
 use Rattle.rle.specs.declared.Spot.{Spot}
@@ -119,6 +120,12 @@ pub record Serves (p : Parts) (r : Reader) (b : List ℕ) (n : ℕ) : Type 0 whe
   pub inside : p .source .coded ≡ false → r .place + n ≤ p .source .items
   pub keyed : p .source .coded ≡ false → p .source .marks ≡ Keys → ⊥
   pub fits : r .place + n < 2 ^ 64
+
+-- rows of char that are an item each, with no marks
+pub record Alone (s : Source) (w : ℕ) : Type 0 where
+  pub kind : s .kind ≡ Char w
+  pub coded : s .coded ≡ false
+  pub bare : s .marks ≡ Bare
 
 -- a batch of these rows
 unfoldable pub batchBy : Parts → Reader → List ℕ → Areas → Steps → Batch
