@@ -30,7 +30,7 @@ ghost use Rattle.rows.specs.Rows.{sumOf, weighedBy};
 ghost use Rattle.format.specs.Blocks.{columnOf};
 ghost use Rattle.format.specs.Opening.{mostRows};
 ghost use Rattle.block.specs.Reading.{opened, noRuns, partOutside, headWrong, wrong as contradicts, remaining as remainingOf, skipped, Areas, batched, isBytes, areas};
-ghost use Rattle.block.specs.Parts.{partsOf, AllWithin, Serves, Alone, startOf, movedBy, stepsBy, goodIn, sizeIn, valueIn, flagIn, textIn, MayWrite, batchBy, valuesAndFlags, endsAndBytes};
+ghost use Rattle.block.specs.Parts.{partsOf, AllWithin, Serves, Alone, Roomy, startOf, movedBy, stepsBy, goodIn, sizeIn, valueIn, flagIn, textIn, MayWrite, batchBy, valuesAndFlags, endsAndBytes};
 
 // Opens a block of `rows` rows. The refusals come in the order of document 01.
 pub fn open(kind: usize, encoding: usize, width: usize, rows: usize, block: &[u8]) -> Opened
@@ -789,8 +789,37 @@ impl Reader {
         chars::put(w, &block[i..j], self.place, n, ends, bytes)
     }
 
-    // Rows of char that are an item each, with no marks: no field of theirs can be wrong, and where the room holds what they take
-    // at most, they are not weighed.
+    // The width of char items that are a row each, with no marks, if the room holds what the next `n` rows take at most; or 0.
+    fn roomy_width(
+        self,
+        parts: Parts,
+        block: &[u8],
+        n: usize,
+        flags: usize,
+        ends: usize,
+        bytes: usize,
+    ) -> u8
+        requires { ⌜ Serves parts self (now block) n ⌝ }
+        ensures { λ r. ⌜ (0 < r → Roomy parts self (now (block .entry)) n r flags ends bytes) ⌝ }
+    {
+        let w = alone_width(parts.source);
+        if w == 0 {
+            return 0;
+        }
+        if flags < n {
+            return 0;
+        }
+        if ends < n {
+            return 0;
+        }
+        if bytes < self.most_bytes(w, parts, block, n) {
+            return 0;
+        }
+        w
+    }
+
+    // Rows of char that are an item each, with no marks: no field of theirs can be wrong, and where there is room they are not
+    // weighed.
     fn give_chars(
         self,
         w: u8,
@@ -801,21 +830,12 @@ impl Reader {
         ends: &mut [u32],
         bytes: &mut [u8],
     ) -> Given
-        requires { ⌜ Serves parts self (now block) n × Alone (parts .source) w ⌝ }
+        requires { ⌜ Serves parts self (now block) n × Roomy parts self (now block) n w (length (now flags)) (length (now ends)) (length (now bytes)) ⌝ }
         ensures { λ r. ⌜ r ≡ batchBy parts self (now (block .entry)) (endsAndBytes (now (flags .entry)) (now (ends .entry)) (now (bytes .entry))) (stepsBy parts self (now (block .entry)) n) .answer ⌝ }
         ensures { λ _. ⌜ now (flags .exit) ≡ batchBy parts self (now (block .entry)) (endsAndBytes (now (flags .entry)) (now (ends .entry)) (now (bytes .entry))) (stepsBy parts self (now (block .entry)) n) .areas .flags ⌝ }
         ensures { λ _. ⌜ now (ends .exit) ≡ batchBy parts self (now (block .entry)) (endsAndBytes (now (flags .entry)) (now (ends .entry)) (now (bytes .entry))) (stepsBy parts self (now (block .entry)) n) .areas .ends ⌝ }
         ensures { λ _. ⌜ now (bytes .exit) ≡ batchBy parts self (now (block .entry)) (endsAndBytes (now (flags .entry)) (now (ends .entry)) (now (bytes .entry))) (stepsBy parts self (now (block .entry)) n) .areas .bytes ⌝ }
     {
-        if flags.len() < n {
-            return refused(4, self);
-        }
-        if ends.len() < n {
-            return refused(4, self);
-        }
-        if bytes.len() < self.most_bytes(w, parts, block, n) {
-            return self.give_weighed(parts, block, n, flags, ends, bytes);
-        }
         let total = self.write_chars(w, parts, block, n, ends, bytes);
         area::fill_bytes(flags, 0, n, 1);
         let t = self.spot(true);
@@ -843,7 +863,7 @@ impl Reader {
         ensures { λ _. ⌜ now (ends .exit) ≡ batchBy parts self (now (block .entry)) (endsAndBytes (now (flags .entry)) (now (ends .entry)) (now (bytes .entry))) (stepsBy parts self (now (block .entry)) n) .areas .ends ⌝ }
         ensures { λ _. ⌜ now (bytes .exit) ≡ batchBy parts self (now (block .entry)) (endsAndBytes (now (flags .entry)) (now (ends .entry)) (now (bytes .entry))) (stepsBy parts self (now (block .entry)) n) .areas .bytes ⌝ }
     {
-        let w = alone_width(parts.source);
+        let w = self.roomy_width(parts, block, n, flags.len(), ends.len(), bytes.len());
         if w == 0 {
             return self.give_weighed(parts, block, n, flags, ends, bytes);
         }

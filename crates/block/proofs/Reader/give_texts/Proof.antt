@@ -4,8 +4,8 @@ use borrow.Author.Needs.{needs}
 use Rattle.block.proofs.Reader.give_texts.Statement.{statement}
 use Rattle.block.proofs.Reader.give_texts.Tie as tie
 
-alone-width-requires : tie.Need-alone-width-requires
-alone-width-requires c κs = search needs
+roomy-width-requires : tie.Need-roomy-width-requires
+roomy-width-requires c κs = search needs
 
 give-weighed-requires : tie.Need-give-weighed-requires
 give-weighed-requires c κs = search needs
@@ -23,7 +23,7 @@ returns : tie.Need-returns
 returns c = search needs
 
 give-chars-requires : tie.Need-give-chars-requires
-give-chars-requires c κs = (c .before .before .before .before .before .before .before .before .before .pre .0, c .before .before .before .before .alone-width .ensures (omega (arith, c .before .before .before .if1 .left)))
+give-chars-requires c κs = (c .before .before .before .before .before .before .before .before .before .pre .0, c .before .before .before .before .roomy-width .ensures (omega (arith, c .before .before .before .if1 .left)))
 
 same-length-4 : tie.Need-same-length-4
 same-length-4 c = search needs
@@ -41,7 +41,7 @@ pub give-texts-spec : {M : Type 1} → statement M
 give-texts-spec =
     tie.close
     (tie.spec
-    alone-width-requires
+    roomy-width-requires
     give-weighed-requires
     same-length
     same-length-2
