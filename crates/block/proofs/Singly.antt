@@ -1,13 +1,11 @@
 -- Rows of char that are an item each, with no marks: their texts are those of the items, and none can be wrong. Assumes nothing.
 use Prim.Native.Nat.{ℕ, _+_, _*_, _^_, _≤_, _<_}
 use native.Mathlib.Omega.{arith}
-use mathlib.Core.Path.{_≡_, refl, sym, ap, _∙_, fun-ext}
+use mathlib.Core.Path.{_≡_, sym, ap, _∙_, fun-ext}
 use mathlib.Core.Bool.{true}
 use mathlib.Core.List.{List, map}
 use lib.ListN.{length, replicate}
 use lib.Seq.{sets}
-use Rattle.encode.specs.declared.Kind.{Kind}
-use Rattle.encode.specs.declared.Kind.the-variants.{Char}
 use Rattle.plain.specs.Rows.{bytesIn}
 use Rattle.plain.specs.Plain.{allOf, places, joined, endsFrom, charAt, plainRow, leastBytes, endsGood}
 use Rattle.rle.specs.Pieces.{runsOf}

@@ -9,7 +9,7 @@ use lib.Dec.{eqb}
 use lib.ListN.{length, take, drop, length-drop}
 use lib.Seq.{length-take-le, take-take, take-add, drop-drop}
 use Rattle.plain.specs.Plain.{beforeNul, charAt}
-use Rattle.plain.proofs.Chars.{Uncut, length-before}
+use Rattle.plain.proofs.Chars.{Uncut}
 
 -- ---- where the first NUL of two lists, one after the other, lies: in the first one, or behind it
 before-cut : (xs ys : List ℕ) → length (beforeNul xs) < length xs → length (beforeNul (xs ++ ys)) ≡ length (beforeNul xs)

@@ -1,7 +1,7 @@
 -- The loop that copies items whole: bytes past a text are covered by the texts that follow, and the last texts are copied alone.
 -- Assumes nothing.
 use mathlib.Core.Path.{_≡_, refl, sym, ap, _∙_}
-use mathlib.Core.List.{List, [], _∷_, _++_, map, append-assoc}
+use mathlib.Core.List.{List, _∷_, _++_, map, append-assoc}
 use Prim.Native.Nat.{ℕ, suc, _+_, _-_, _*_, _≤_, _<_}
 use native.Mathlib.Nat.{add-zero}
 use native.Mathlib.Numerals.{add-one}
@@ -75,8 +75,8 @@ module _ {w : ℕ} {s : List ℕ} {from n : ℕ} {ends : List ℕ} {total : ℕ}
         (cc, cc)
 
     -- the end that the code reads
-    pub laying-end-at : getD ends i 0 ≡ at + length text
-    laying-end-at = both .0
+    end-is : getD ends i 0 ≡ at + length text
+    end-is = both .0
 
     sums : at + (length text + length later) ≡ total
     unfolding places joined
@@ -87,7 +87,7 @@ module _ {w : ℕ} {s : List ℕ} {from n : ℕ} {ends : List ℕ} {total : ℕ}
     -- what a copy of the item may take
     pub laying-span : (at ≤ getD ends i 0) × (getD ends i 0 ≤ at + w) × (getD ends i 0 ≤ total)
     laying-span =
-        let e = laying-end-at in
+        let e = end-is in
         let l = length-char w s (from + i) in
         let t = sums in
         (omega arith, omega arith, omega arith)
@@ -95,7 +95,7 @@ module _ {w : ℕ} {s : List ℕ} {from n : ℕ} {ends : List ℕ} {total : ℕ}
     pub laying-step : (copied : ℕ) → getD ends i 0 ≤ at + copied → at + copied ≤ total → total ≤ length bytes₀ → {bytes′ : List ℕ} → bytes′ ≡ sets bytes at (take copied (drop ((from + i) * w) s)) → Laying w s from n ends total bytes₀ bytes′ (getD ends i 0) (i + 1)
     unfolding places joined
     laying-step copied lo hi fits {bytes′} b =
-        let e : getD ends i 0 ≡ at + length text = laying-end-at in
+        let e : getD ends i 0 ≡ at + length text = end-is in
         let k : ℕ = copied - length text in
         let past : List ℕ = take k (drop (length text) (drop ((from + i) * w) s)) in
         let c : copied ≡ length text + k = omega arith in

@@ -17,8 +17,8 @@ fn letter(byte: u8) -> u8
     if byte == 0 { 0 } else { 1 }
 }
 
-// How many of the `n` bytes from `at` on are no NULs. So few are counted in a byte, and so sixteen at a time once it is machine
-// code.
+// How many of the `n` bytes from `at` on are no NULs. So few are counted in a byte, which lets the machine code count sixteen at
+// a time.
 fn count(s: &[u8], at: usize, n: usize) -> u8
     requires { ⌜ (n < 256) × (at + n ≤ length (now s)) ⌝ }
     ensures { λ r. ⌜ (r ≡ letters (take n (drop at (now (s .entry))))) × (r ≤ n) ⌝ }
@@ -58,13 +58,14 @@ fn nul_at(byte: u8, k: u8, end: u8) -> u8
     if byte == 0 { k } else { end }
 }
 
+// The lower of two numbers.
 fn lower(a: u8, b: u8) -> u8
     ensures { λ r. ⌜ (a < b → r ≡ a) × (b ≤ a → r ≡ b) ⌝ }
 {
     if a < b { a } else { b }
 }
 
-// The length of item `i`, cut at its first NUL. Every byte is looked at, and so sixteen at a time once it is machine code.
+// The length of item `i`, cut at its first NUL. Every byte is looked at, which lets the machine code take several at a time.
 fn short_len(s: &[u8], i: usize, w: u8) -> u8
     requires { ⌜ i * w + w ≤ length (now s) ⌝ }
     ensures { λ r. ⌜ (r ≡ length (charAt w (now (s .entry)) i)) × (r ≤ w) ⌝ }
@@ -100,7 +101,7 @@ fn text_len(s: &[u8], i: usize, w: u8) -> u8
     n + short_len(&s[from..to], 0, w - n)
 }
 
-// Writes the ends of the `n` items from `from` on. What comes back is the last one.
+// Writes the ends of the `n` items from `from` on. What comes back is how many bytes their texts have.
 fn put_ends(w: u8, s: &[u8], from: usize, n: usize, ends: &mut [u32]) -> usize
     requires { ⌜ (from + n ≤ 1048576) × (from * w + n * w ≤ length (now s)) × (n ≤ length (now ends)) ⌝ }
     ensures { λ r. ⌜ (r ≡ length (joined (charAt w (now (s .entry))) (places n from))) × (r ≤ 255 * n) ⌝ }

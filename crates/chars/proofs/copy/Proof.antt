@@ -1,7 +1,6 @@
 -- `copy` meets its contract: the law of the loop that copies, by eight bytes a step, and then the rest. Assumes nothing.
 use Prim.Native.Nat.{_-_}
 use mathlib.Core.Path.{_∙_}
-use native.Mathlib.Omega.{arith}
 use borrow.Author.Needs.{needs}
 use Rattle.area.proofs.Loops.{Copying, copying-start}
 use Rattle.chars.proofs.Words.{copying-word}

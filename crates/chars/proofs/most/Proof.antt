@@ -1,8 +1,5 @@
 -- `most` meets its contract: it counts in parts, and no text has more bytes than its item has that are no NULs. Assumes nothing.
-use mathlib.Core.Path.{refl}
-use Prim.Native.Nat.{_*_, _≤_, _+_}
 use native.Mathlib.Omega.{arith}
-use native.Mathlib.Nat.{mul-le-mul-right}
 use borrow.Author.Needs.{needs}
 use Rattle.chars.proofs.Counting.{Bounding, bounding-start, bounding-step, bounding-end}
 use Rattle.chars.proofs.most.Statement.{statement}

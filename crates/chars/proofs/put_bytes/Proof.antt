@@ -1,10 +1,9 @@
 -- `put_bytes` meets its contract. The loop's invariant: what is still to be written covers all that was copied too much. Assumes nothing.
 use Prim.Native.Nat.{_-_}
-use mathlib.Core.Path.{refl}
 use native.Mathlib.Omega.{arith}
 use Rattle.plain.proofs.Items.{item-within}
 use borrow.Author.Needs.{needs}
-use Rattle.chars.proofs.Laying.{Laying, laying-start, laying-end-at, laying-span, laying-step, laying-end}
+use Rattle.chars.proofs.Laying.{Laying, laying-start, laying-span, laying-step, laying-end}
 use Rattle.chars.proofs.put_bytes.Statement.{statement}
 use Rattle.chars.proofs.put_bytes.Tie as tie
 
