@@ -338,16 +338,17 @@ unfolding allOf places
 all-places f m zero i h e = refl
 all-places f m (suc n) i h e = rw (e i (omega arith)) (all-places f m n (suc i) (omega arith) e)
 
-module _ (s : Source) (marks items : List ℕ) (q : Primitive) (fixed : s .kind ≡ Fixed q) (plain : s .marks ≡ Keys → ⊥) (i : ℕ) where
-  item-good : i < s .items → goodBy s marks items i ≡ true
-  unfolding goodBy mostBy seenBy entryGood endsGood
-  item-good h = rw fixed (go (s .marks) plain)
-    where
-      go : (m : Marks) → (m ≡ Keys → ⊥) → (ltb i (mostBy m (s .items) (s .runs)) && entryGood (Fixed q) (s .items) items (seenBy m marks i)) ≡ true
-      go Bare z = simp (lt-ltb i (s .items) h)
-      go Bits z = simp (lt-ltb i (s .items) h)
-      go Keys z = absurd (z refl)
+-- an item that is there is good, where the kind has no field that can be wrong
+item-good : (s : Source) (marks items : List ℕ) → (s .marks ≡ Keys → ⊥) → ((j : ℕ) → endsGood (s .kind) (s .items) items j ≡ true) → (i : ℕ) → i < s .items → goodBy s marks items i ≡ true
+unfolding goodBy mostBy seenBy entryGood
+item-good s marks items plain fine i h = go (s .marks) plain
+  where
+    go : (m : Marks) → (m ≡ Keys → ⊥) → (ltb i (mostBy m (s .items) (s .runs)) && entryGood (s .kind) (s .items) items (seenBy m marks i)) ≡ true
+    go Bare z = simp (lt-ltb i (s .items) h, fine i)
+    go Bits z = simp (lt-ltb i (s .items) h, fine i)
+    go Keys z = absurd (z refl)
 
+module _ (s : Source) (marks items : List ℕ) (q : Primitive) (fixed : s .kind ≡ Fixed q) (plain : s .marks ≡ Keys → ⊥) (i : ℕ) where
   item-value : cond (eqb (flagBy s marks items i) 0) (pos 0) (fixedAt q items i) ≡ intBy s marks items i
   unfolding flagBy intBy rowBy shownBy entryRow plainRow presence intIn
   item-value = rw fixed (go (s .marks) plain)
@@ -366,18 +367,27 @@ module _ (s : Source) (marks items : List ℕ) (q : Primitive) (fixed : s .kind 
   unfolding intBy rowBy shownBy entryRow plainRow intIn
   bare-value e = rw (fixed, e)
 
+module _ (p : Parts) (r : Reader) (b : List ℕ) (n : ℕ) (s : Serves p r b n) (c : p .source .coded ≡ false) where
+  -- all of the rows are good, and lie in the block
+  pub all-good : ((j : ℕ) → endsGood (p .source .kind) (p .source .items) (itemsIn p b) j ≡ true) → allOf (goodBy (p .source) (marksIn p b) (itemsIn p b)) (places n (r .place)) ≡ true
+  all-good fine = all-places _ (p .source .items) n (r .place) (s .inside c) (λ j h. item-good (p .source) (marksIn p b) (itemsIn p b) (s .keyed c) fine j h)
+
+  pub all-there : (w : ℕ) → leastBytes (p .source .kind) (p .source .items) ≡ p .source .items * w → r .place * w + n * w ≤ length (itemsIn p b)
+  all-there w e =
+      let i = s .inside c in
+      let l : leastBytes (p .source .kind) (p .source .items) ≤ length (itemsIn p b) = s .ready .whole in
+      let m : (r .place + n) * w ≤ p .source .items * w = mul-le-mul-right w i in
+      let d : (r .place + n) * w ≡ r .place * w + n * w = add-mul (r .place) n w in
+      omega arith
+
 module _ (p : Parts) (r : Reader) (b : List ℕ) (n : ℕ) (s : Serves p r b n) (c : p .source .coded ≡ false) (q : Primitive) (fixed : p .source .kind ≡ Fixed q) where
   pub items-good : allOf (goodBy (p .source) (marksIn p b) (itemsIn p b)) (places n (r .place)) ≡ true
-  items-good = all-places _ (p .source .items) n (r .place) (s .inside c) (λ j h. item-good (p .source) (marksIn p b) (itemsIn p b) q fixed (s .keyed c) j h)
+  unfolding endsGood
+  items-good = all-good p r b n s c (λ j. rw fixed)
 
   pub items-room : r .place * widthOf q + n * widthOf q ≤ length (itemsIn p b)
   unfolding leastBytes
-  items-room =
-      let i = s .inside c in
-      let w : p .source .items * widthOf q ≤ length (itemsIn p b) = rw fixed at (s .ready .whole) in
-      let m : (r .place + n) * widthOf q ≤ p .source .items * widthOf q = mul-le-mul-right (widthOf q) i in
-      let d : (r .place + n) * widthOf q ≡ r .place * widthOf q + n * widthOf q = add-mul (r .place) n (widthOf q) in
-      omega arith
+  items-room = all-there p r b n s c (widthOf q) (rw fixed)
 
   pub blanked : (vs v₁ v₂ : List ℤ) (fs f₁ : List ℕ) → n ≤ length vs → n ≤ length fs → v₁ ≡ sets vs 0 (map (fixedAt q (itemsIn p b)) (places n (r .place))) → f₁ ≡ sets fs 0 (map (flagBy (p .source) (marksIn p b) (itemsIn p b)) (places n (r .place))) → v₂ ≡ sets v₁ 0 (map (blankAt f₁ v₁) (places n 0)) → v₂ ≡ sets vs 0 (map (intBy (p .source) (marksIn p b) (itemsIn p b)) (places n (r .place)))
   unfolding blankAt

@@ -3,6 +3,7 @@ pub mod Laying
 pub mod Stepwise
 pub mod Moving
 pub mod Giving
+pub mod Singly
 pub mod Testing
 pub mod Dividing
 pub mod Skipping

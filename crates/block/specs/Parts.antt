@@ -6,15 +6,16 @@ use mathlib.Core.List.{List, [], map}
 use lib.IntN.{ℤ}
 use lib.ListN.{length, take, drop}
 use Rattle.encode.specs.declared.Kind.{Kind}
+use Rattle.encode.specs.declared.Kind.the-variants.{Char}
 use Rattle.plain.specs.Plain.{allOf}
 use Rattle.nullable.specs.Nullable.{bitmapLength}
 use Rattle.rle.specs.declared.Spot.{Spot}
 use Rattle.rle.specs.Stepping.{spot, Steps, stuck, rows}
-use Rattle.rle.specs.Pieces.{stepsIn}
+use Rattle.rle.specs.Pieces.{stepsIn, runsOf}
 use Rattle.rows.specs.declared.Marks.{Marks}
 use Rattle.rows.specs.declared.Marks.the-variants.{Bare, Bits, Keys}
 use Rattle.rows.specs.declared.Source.{Source}
-use Rattle.rows.specs.Rows.{rowBy, goodBy, sizeBy, intBy, flagBy, textBy, Ready, Starts, Writes}
+use Rattle.rows.specs.Rows.{rowBy, goodBy, sizeBy, intBy, flagBy, textBy, sumOf, Ready, Starts, Writes}
 use Rattle.format.specs.declared.Encoding.{Encoding}
 use Rattle.format.specs.declared.Encoding.the-variants.{Plain, Nullable, RunLength, RunLengthNullable, Dictionary}
 use Rattle.block.specs.declared.Reader.{Reader}
@@ -119,6 +120,19 @@ pub record Serves (p : Parts) (r : Reader) (b : List ℕ) (n : ℕ) : Type 0 whe
   pub inside : p .source .coded ≡ false → r .place + n ≤ p .source .items
   pub keyed : p .source .coded ≡ false → p .source .marks ≡ Keys → ⊥
   pub fits : r .place + n < 2 ^ 64
+
+-- rows of char that are an item each, with no marks
+pub record Alone (s : Source) (w : ℕ) : Type 0 where
+  pub kind : s .kind ≡ Char w
+  pub coded : s .coded ≡ false
+  pub bare : s .marks ≡ Bare
+
+-- and room for the next n of them
+pub record Roomy (p : Parts) (r : Reader) (b : List ℕ) (n w flags ends bytes : ℕ) : Type 0 where
+  pub alone : Alone (p .source) w
+  pub flagged : n ≤ flags
+  pub ended : n ≤ ends
+  pub held : sumOf (sizeIn p b) (runsOf (stepsBy p r b n)) ≤ bytes
 
 -- a batch of these rows
 unfoldable pub batchBy : Parts → Reader → List ℕ → Areas → Steps → Batch

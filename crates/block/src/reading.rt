@@ -30,7 +30,7 @@ ghost use Rattle.rows.specs.Rows.{sumOf, weighedBy};
 ghost use Rattle.format.specs.Blocks.{columnOf};
 ghost use Rattle.format.specs.Opening.{mostRows};
 ghost use Rattle.block.specs.Reading.{opened, noRuns, partOutside, headWrong, wrong as contradicts, remaining as remainingOf, skipped, Areas, batched, isBytes, areas};
-ghost use Rattle.block.specs.Parts.{partsOf, AllWithin, Serves, startOf, movedBy, stepsBy, goodIn, sizeIn, valueIn, flagIn, textIn, MayWrite, batchBy, valuesAndFlags, endsAndBytes};
+ghost use Rattle.block.specs.Parts.{partsOf, AllWithin, Serves, Alone, Roomy, startOf, movedBy, stepsBy, goodIn, sizeIn, valueIn, flagIn, textIn, MayWrite, batchBy, valuesAndFlags, endsAndBytes};
 
 // Opens a block of `rows` rows. The refusals come in the order of document 01.
 pub fn open(kind: usize, encoding: usize, width: usize, rows: usize, block: &[u8]) -> Opened
@@ -87,6 +87,24 @@ fn least_bytes(kind: Kind, n: usize) -> usize
         Kind::Char(w) => n * (w as usize),
         Kind::Blob => 4 * n,
     }
+}
+
+// The width of char items that are a row each, with no marks; or 0.
+fn alone_width(source: Source) -> u8
+    ensures { λ r. ⌜ (0 < r → Alone source r) ⌝ }
+{
+    if source.coded {
+        return 0;
+    }
+    let by = source.marks;
+    let Marks::Bare = by else {
+        return 0;
+    };
+    let kind = source.kind;
+    let Kind::Char(w) = kind else {
+        return 0;
+    };
+    w
 }
 
 // A refused batch.
@@ -696,8 +714,8 @@ impl Reader {
         }
     }
 
-    // Rows of char and blob.
-    fn give_texts(
+    // Rows of char and blob, weighed before they are written.
+    fn give_weighed(
         self,
         parts: Parts,
         block: &[u8],
@@ -737,6 +755,119 @@ impl Reader {
             bytes: total,
             reader: self.moved(source.coded, n, next),
         }
+    }
+
+    // The bytes that the next `n` rows of char take at most.
+    fn most_bytes(self, w: u8, parts: Parts, block: &[u8], n: usize) -> usize
+        requires { ⌜ Serves parts self (now block) n × Alone (parts .source) w ⌝ }
+        ensures { λ r. ⌜ sumOf (sizeIn parts (now (block .entry))) (runsOf (stepsBy parts self (now (block .entry)) n)) ≤ r ⌝ }
+    {
+        let items = parts.items;
+        let i = items.from;
+        let j = items.to;
+        chars::most(w, &block[i..j], self.place, n)
+    }
+
+    // Writes the bytes and the ends of the next `n` rows of char.
+    fn write_chars(
+        self,
+        w: u8,
+        parts: Parts,
+        block: &[u8],
+        n: usize,
+        ends: &mut [u32],
+        bytes: &mut [u8],
+    ) -> usize
+        requires { ⌜ Serves parts self (now block) n × Alone (parts .source) w × (n ≤ length (now ends)) × (sumOf (sizeIn parts (now block)) (runsOf (stepsBy parts self (now block) n)) ≤ length (now bytes)) ⌝ }
+        ensures { λ r. ⌜ (r ≡ sumOf (sizeIn parts (now (block .entry))) (runsOf (stepsBy parts self (now (block .entry)) n))) × (r < 2 ^ 32) ⌝ }
+        ensures { λ _. ⌜ now (ends .exit) ≡ sets (now (ends .entry)) 0 (endsFrom 0 (map (textIn parts (now (block .entry))) (runsOf (stepsBy parts self (now (block .entry)) n)))) ⌝ }
+        ensures { λ _. ⌜ now (bytes .exit) ≡ sets (now (bytes .entry)) 0 (joined (textIn parts (now (block .entry))) (runsOf (stepsBy parts self (now (block .entry)) n))) ⌝ }
+    {
+        let items = parts.items;
+        let i = items.from;
+        let j = items.to;
+        chars::put(w, &block[i..j], self.place, n, ends, bytes)
+    }
+
+    // The width of char items that are a row each, with no marks, if the room holds what the next `n` rows take at most; or 0.
+    fn roomy_width(
+        self,
+        parts: Parts,
+        block: &[u8],
+        n: usize,
+        flags: usize,
+        ends: usize,
+        bytes: usize,
+    ) -> u8
+        requires { ⌜ Serves parts self (now block) n ⌝ }
+        ensures { λ r. ⌜ (0 < r → Roomy parts self (now (block .entry)) n r flags ends bytes) ⌝ }
+    {
+        let w = alone_width(parts.source);
+        if w == 0 {
+            return 0;
+        }
+        if flags < n {
+            return 0;
+        }
+        if ends < n {
+            return 0;
+        }
+        if bytes < self.most_bytes(w, parts, block, n) {
+            return 0;
+        }
+        w
+    }
+
+    // Rows of char that are an item each, with no marks: no field of theirs can be wrong, and where there is room they are not
+    // weighed.
+    fn give_chars(
+        self,
+        w: u8,
+        parts: Parts,
+        block: &[u8],
+        n: usize,
+        flags: &mut [u8],
+        ends: &mut [u32],
+        bytes: &mut [u8],
+    ) -> Given
+        requires { ⌜ Serves parts self (now block) n × Roomy parts self (now block) n w (length (now flags)) (length (now ends)) (length (now bytes)) ⌝ }
+        ensures { λ r. ⌜ r ≡ batchBy parts self (now (block .entry)) (endsAndBytes (now (flags .entry)) (now (ends .entry)) (now (bytes .entry))) (stepsBy parts self (now (block .entry)) n) .answer ⌝ }
+        ensures { λ _. ⌜ now (flags .exit) ≡ batchBy parts self (now (block .entry)) (endsAndBytes (now (flags .entry)) (now (ends .entry)) (now (bytes .entry))) (stepsBy parts self (now (block .entry)) n) .areas .flags ⌝ }
+        ensures { λ _. ⌜ now (ends .exit) ≡ batchBy parts self (now (block .entry)) (endsAndBytes (now (flags .entry)) (now (ends .entry)) (now (bytes .entry))) (stepsBy parts self (now (block .entry)) n) .areas .ends ⌝ }
+        ensures { λ _. ⌜ now (bytes .exit) ≡ batchBy parts self (now (block .entry)) (endsAndBytes (now (flags .entry)) (now (ends .entry)) (now (bytes .entry))) (stepsBy parts self (now (block .entry)) n) .areas .bytes ⌝ }
+    {
+        let total = self.write_chars(w, parts, block, n, ends, bytes);
+        area::fill_bytes(flags, 0, n, 1);
+        let t = self.spot(true);
+        Given {
+            number: 0,
+            rows: n,
+            bytes: total,
+            reader: self.moved(false, n, t),
+        }
+    }
+
+    // Rows of char and blob.
+    fn give_texts(
+        self,
+        parts: Parts,
+        block: &[u8],
+        n: usize,
+        flags: &mut [u8],
+        ends: &mut [u32],
+        bytes: &mut [u8],
+    ) -> Given
+        requires { ⌜ Serves parts self (now block) n × (isBytes (parts .source .kind) ≡ true) ⌝ }
+        ensures { λ r. ⌜ r ≡ batchBy parts self (now (block .entry)) (endsAndBytes (now (flags .entry)) (now (ends .entry)) (now (bytes .entry))) (stepsBy parts self (now (block .entry)) n) .answer ⌝ }
+        ensures { λ _. ⌜ now (flags .exit) ≡ batchBy parts self (now (block .entry)) (endsAndBytes (now (flags .entry)) (now (ends .entry)) (now (bytes .entry))) (stepsBy parts self (now (block .entry)) n) .areas .flags ⌝ }
+        ensures { λ _. ⌜ now (ends .exit) ≡ batchBy parts self (now (block .entry)) (endsAndBytes (now (flags .entry)) (now (ends .entry)) (now (bytes .entry))) (stepsBy parts self (now (block .entry)) n) .areas .ends ⌝ }
+        ensures { λ _. ⌜ now (bytes .exit) ≡ batchBy parts self (now (block .entry)) (endsAndBytes (now (flags .entry)) (now (ends .entry)) (now (bytes .entry))) (stepsBy parts self (now (block .entry)) n) .areas .bytes ⌝ }
+    {
+        let w = self.roomy_width(parts, block, n, flags.len(), ends.len(), bytes.len());
+        if w == 0 {
+            return self.give_weighed(parts, block, n, flags, ends, bytes);
+        }
+        self.give_chars(w, parts, block, n, flags, ends, bytes)
     }
 
     // Gives up to `size` rows.

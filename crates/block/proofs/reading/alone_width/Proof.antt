@@ -1,0 +1,27 @@
+-- `alone_width` meets its contract: 0 says nothing. Assumes nothing.
+use native.Mathlib.Omega.{arith}
+use borrow.Author.Needs.{needs}
+use Rattle.block.proofs.reading.alone_width.Statement.{statement}
+use Rattle.block.proofs.reading.alone_width.Tie as tie
+
+returns : tie.Need-returns
+returns c = λ l. absurd (omega arith)
+
+enum-told : tie.Need-enum-told
+enum-told c = search needs
+
+returns-2 : tie.Need-returns-2
+returns-2 c = λ l. absurd (omega arith)
+
+enum-known-kind : tie.Need-enum-known-kind
+enum-known-kind c = search needs
+
+returns-3 : tie.Need-returns-3
+returns-3 c = λ l. absurd (omega arith)
+
+returns-4 : tie.Need-returns-4
+returns-4 c = search needs
+
+pub alone-width-spec : {M : Type 1} → statement M
+alone-width-spec =
+    tie.close (tie.spec returns enum-told returns-2 enum-known-kind returns-3 returns-4)
