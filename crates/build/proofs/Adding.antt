@@ -1,11 +1,11 @@
 -- Append: the slots that a row needs are there, and the answer on each way through the code. Assumes nothing.
-use Prim.Native.Nat.{ℕ, zero, suc, _+_, _-_, _*_, _/_, _^_, _≤_, _<_}
+use Prim.Native.Nat.{ℕ, _+_, _-_, _*_, _/_, _^_, _≤_, _<_}
 use native.Mathlib.Omega.{arith}
 use mathlib.Core.Path.{_≡_, refl, sym, ap, subst, _∙_}
 use mathlib.Core.Bool.{Bool, true, false, cond, not, _&&_, _||_}
-use mathlib.Core.List.{List, []}
+use mathlib.Core.List.{List}
 use lib.Dec.{ltb, eqb}
-use lib.IntN.{ℤ, pos}
+use lib.IntN.{ℤ}
 use lib.ListN.{length, set}
 use borrow.Author.Tests.{ltb-false, eqb-true, not-true, not-false}
 use mir.Syntax.{w32, w64}
@@ -33,8 +33,8 @@ use Rattle.build.specs.declared.Step.the-variants.{Row as Adds, Wrong}
 use Rattle.build.specs.declared.Appended.{Appended}
 use Rattle.build.specs.Needs.{Areas, areas, roomOf, coded, flagged, keyed, storedBy, finishedBytes, countsPast, pastLimits, bytesWrong, recordWrong, fieldsShort, runsShort, short}
 use Rattle.build.specs.Building.{Append, appendOf, heldIn, stepOf, grown, written, counted, appendedBy, appendedAs, appendedIn, appended}
-use Rattle.build.specs.Coding.{Ready, answer, answerBy, Stores}
-use Rattle.build.proofs.Recorded.{apart, neither, or-first, or-then, or-none, and-then, and-not, Right, right}
+use Rattle.build.specs.Coding.{Ready, answer, answerBy, Stores, Given}
+use Rattle.build.proofs.Recorded.{apart, neither, or-first, or-then, or-none, and-then, right}
 use Rattle.build.proofs.Growing.{finished-holds, not-joined}
 use Rattle.build.proofs.Steps.{step-says, step-fits}
 
@@ -368,14 +368,6 @@ module _ (k : Kind) (e : Encoding) (r : Builder) (a : Areas) (next : Builder) (a
       {n : Appended} → n ≡ answerBy k e r (roomOf a) next → n .number ≡ 0
       → (counted k e r a next after ≡ withAreas n after) × (pastLimits k e next ≡ false) × (short k e next (roomOf a) ≡ false)
   counted-done h = counted-by (pastLimits k e next) (short k e next (roomOf a)) refl refl h .1
-
--- what the promise says, from the whole answer
-abbrev pub Given : Append → Appended → List ℕ → List ℕ → List ℕ → List ℕ → List ℤ → List ℕ → Type 0
-Given x n is es fs cs ks ls =
-    (n ≡ x .answer)
-    × ((is ≡ x .areas .items)
-    × ((es ≡ x .areas .ends)
-    × ((fs ≡ x .areas .flags) × ((cs ≡ x .areas .counts) × ((ks ≡ x .areas .keys) × (ls ≡ x .areas .lens))))))
 
 pub given : (x : Append) {y : Append} → x ≡ y → {n : Appended} {is es fs cs ls : List ℕ} {ks : List ℤ} → Given y n is es fs cs ks ls → Given x n is es fs cs ks ls
 given x {y} q {n} {is} {es} {fs} {cs} {ls} {ks} g = subst (λ (z : Append). Given z n is es fs cs ks ls) (sym q) g

@@ -1,12 +1,12 @@
 -- The record with one row more, on each way through the code of recording. Assumes nothing.
-use Prim.Native.Nat.{ℕ, _+_, _-_, _≤_, _<_, _^_}
+use Prim.Native.Nat.{ℕ, _+_, _-_, _≤_, _<_}
 use native.Mathlib.Omega.{arith}
 use mathlib.Core.Path.{_≡_, refl, sym, ap, subst, _∙_}
 use mathlib.Core.Logic.{⊎-elim}
 use mathlib.Core.Bool.{Bool, true, false, cond, not, _&&_}
 use lib.Dec.{ltb}
 use lib.ListN.{length}
-use borrow.Author.Tests.{lt-ltb, ltb-true, ltb-false}
+use borrow.Author.Tests.{ltb-true, ltb-false}
 use Rattle.varint.specs.Varint.{spelling}
 use Rattle.area.proofs.Laws.{lt-or-ge}
 use Rattle.varint.proofs.Spelling.{size1, size2, size3, size4, size5}
@@ -22,7 +22,7 @@ use Rattle.build.specs.declared.Appended.{Appended}
 use Rattle.build.specs.declared.Created.{Created}
 use Rattle.build.specs.declared.Created.the-variants.{New, Refused}
 use Rattle.build.specs.Building.{empty, createdIn, created, growth, grown}
-use Rattle.build.specs.Needs.{coded, flagged, keyed, storedBy, innerBytes, runBytes, finishedBytes, countsPast, pastLimits, recordWrong, short}
+use Rattle.build.specs.Needs.{coded, keyed, innerBytes, finishedBytes, countsPast, pastLimits, short}
 use Rattle.build.specs.Coding.{rowsBy, runsBy, withEntries, answer, answerBy}
 use Rattle.build.proofs.Recorded.{apart, neither, limit-past, inner-least, run-some, cond-then, cond-else}
 

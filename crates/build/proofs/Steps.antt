@@ -1,16 +1,16 @@
 -- What an append finds, on each way through the code of finding. Assumes nothing.
-use Prim.Native.Nat.{ℕ, zero, suc, _+_, _-_, _≤_, _<_, _^_}
+use Prim.Native.Nat.{ℕ, zero, suc, _+_, _-_, _≤_, _<_}
 use native.Mathlib.Omega.{arith}
 use mathlib.Core.Path.{_≡_, refl, sym, ap, subst, _∙_}
 use mathlib.Core.Bool.{Bool, true, false, cond, not, _&&_}
-use mathlib.Core.List.{List, [], _∷_}
+use mathlib.Core.List.{List, []}
 use lib.Dec.{ltb, eqb}
 use lib.IntN.{ℤ, pos, negsuc, _+ℤ_}
 use lib.ListN.{length, getD}
 use mir.Syntax.{Width, w32}
 use mir.Val.{ofZ, toZ, SFits}
 use mir.Facts.{toZ-ofZ, toZ-pos}
-use borrow.Author.Tests.{lt-ltb, le-ltb, ltb-true, eq-eqb, ne-eqb, eqb-true}
+use borrow.Author.Tests.{lt-ltb, le-ltb, ltb-true, eq-eqb, ne-eqb}
 use Rattle.encode.specs.declared.Kind.{Kind}
 use Rattle.encode.specs.declared.Kind.the-variants.{Fixed, Char, Blob}
 use Rattle.plain.specs.Rows.{Row, null, int, bytes, valueOf, rowOf, sameInt, same}

@@ -2,7 +2,7 @@
 -- Assumes nothing.
 use Prim.Native.Nat.{ℕ, _+_, _/_, _^_, _≤_, _<_}
 use mathlib.Core.Path.{_≡_}
-use mathlib.Core.Bool.{Bool, true, false, cond, not, _&&_, _||_}
+use mathlib.Core.Bool.{Bool, true, cond, not, _&&_, _||_}
 use mathlib.Core.List.{List}
 use lib.Dec.{ltb}
 use lib.IntN.{ℤ}
@@ -19,6 +19,7 @@ use Rattle.build.specs.declared.Room.{Room}
 use Rattle.build.specs.declared.Appended.{Appended}
 use Rattle.held.specs.Held.{Held}
 use Rattle.held.specs.Asking.{FieldsThere, BytesThere}
+use Rattle.build.specs.Building.{Append}
 use Rattle.build.specs.Needs.{Areas, coded, flagged, keyed, storedBy, plainBytes, pastLimits, bytesWrong, fieldsShort, short}
 
 -- ---- the encodings of rows, and of runs: with a flag beside each stored item, or none
@@ -81,6 +82,14 @@ pub record Stores (k : Kind) (nullable : Bool) (i at : ℕ) (row : Row) (len : �
   pub ends : k ≡ Blob → i < length es
   pub lens : (w : ℕ) → k ≡ Char w → i < length ls
   pub flags : nullable ≡ true → i / 8 < length fs
+
+-- what an append says of its answer and of the areas that it leaves, from the whole
+abbrev pub Given : Append → Appended → List ℕ → List ℕ → List ℕ → List ℕ → List ℤ → List ℕ → Type 0
+Given x n is es fs cs ks ls =
+    (n ≡ x .answer)
+    × ((is ≡ x .areas .items)
+    × ((es ≡ x .areas .ends)
+    × ((fs ≡ x .areas .flags) × ((cs ≡ x .areas .counts) × ((ks ≡ x .areas .keys) × (ls ≡ x .areas .lens))))))
 
 -- ---- finish
 -- the record with another byte length of the counts

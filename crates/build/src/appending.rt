@@ -21,7 +21,7 @@ ghost use Rattle.slots.specs.Slots.{endsWith, lensWith, flagsWith};
 ghost use Rattle.format.specs.declared.Encoding.the-variants.{Dictionary};
 ghost use Rattle.build.specs.Needs.{areas};
 ghost use Rattle.build.specs.Building.{appendedAs, appended};
-ghost use Rattle.build.specs.Coding.{rowsBy, runsBy, Stores};
+ghost use Rattle.build.specs.Coding.{rowsBy, runsBy, Stores, Given};
 
 fn refused(number: u8, builder: Builder) -> Appended
     ensures { λ r. ⌜ r ≡ record { number = number; builder = builder } ⌝ }
@@ -86,13 +86,7 @@ fn append_row(
     value: i64,
     item: &[u8],
 ) -> Appended
-    ensures { λ r. ⌜ r ≡ appendedAs kind (rowsBy nullable) b (areas (now (items .entry)) (now (ends .entry)) (now (flags .entry)) (now (counts .entry)) (now (keys .entry)) (now (lens .entry))) (rowOf kind present value (now (item .entry))) .answer ⌝ }
-    ensures { λ _. ⌜ now (items .exit) ≡ appendedAs kind (rowsBy nullable) b (areas (now (items .entry)) (now (ends .entry)) (now (flags .entry)) (now (counts .entry)) (now (keys .entry)) (now (lens .entry))) (rowOf kind present value (now (item .entry))) .areas .items ⌝ }
-    ensures { λ _. ⌜ now (ends .exit) ≡ appendedAs kind (rowsBy nullable) b (areas (now (items .entry)) (now (ends .entry)) (now (flags .entry)) (now (counts .entry)) (now (keys .entry)) (now (lens .entry))) (rowOf kind present value (now (item .entry))) .areas .ends ⌝ }
-    ensures { λ _. ⌜ now (flags .exit) ≡ appendedAs kind (rowsBy nullable) b (areas (now (items .entry)) (now (ends .entry)) (now (flags .entry)) (now (counts .entry)) (now (keys .entry)) (now (lens .entry))) (rowOf kind present value (now (item .entry))) .areas .flags ⌝ }
-    ensures { λ _. ⌜ now (counts .exit) ≡ appendedAs kind (rowsBy nullable) b (areas (now (items .entry)) (now (ends .entry)) (now (flags .entry)) (now (counts .entry)) (now (keys .entry)) (now (lens .entry))) (rowOf kind present value (now (item .entry))) .areas .counts ⌝ }
-    ensures { λ _. ⌜ now (keys .exit) ≡ appendedAs kind (rowsBy nullable) b (areas (now (items .entry)) (now (ends .entry)) (now (flags .entry)) (now (counts .entry)) (now (keys .entry)) (now (lens .entry))) (rowOf kind present value (now (item .entry))) .areas .keys ⌝ }
-    ensures { λ _. ⌜ now (lens .exit) ≡ appendedAs kind (rowsBy nullable) b (areas (now (items .entry)) (now (ends .entry)) (now (flags .entry)) (now (counts .entry)) (now (keys .entry)) (now (lens .entry))) (rowOf kind present value (now (item .entry))) .areas .lens ⌝ }
+    ensures { λ r. ⌜ Given (appendedAs kind (rowsBy nullable) b (areas (now (items .entry)) (now (ends .entry)) (now (flags .entry)) (now (counts .entry)) (now (keys .entry)) (now (lens .entry))) (rowOf kind present value (now (item .entry)))) r (now (items .exit)) (now (ends .exit)) (now (flags .exit)) (now (counts .exit)) (now (keys .exit)) (now (lens .exit)) ⌝ }
 {
     if needs::rows_wrong(b, kind, nullable) {
         return refused(9, b);
@@ -149,13 +143,7 @@ fn append_run(
     value: i64,
     item: &[u8],
 ) -> Appended
-    ensures { λ r. ⌜ r ≡ appendedAs kind (runsBy nullable) b (areas (now (items .entry)) (now (ends .entry)) (now (flags .entry)) (now (counts .entry)) (now (keys .entry)) (now (lens .entry))) (rowOf kind present value (now (item .entry))) .answer ⌝ }
-    ensures { λ _. ⌜ now (items .exit) ≡ appendedAs kind (runsBy nullable) b (areas (now (items .entry)) (now (ends .entry)) (now (flags .entry)) (now (counts .entry)) (now (keys .entry)) (now (lens .entry))) (rowOf kind present value (now (item .entry))) .areas .items ⌝ }
-    ensures { λ _. ⌜ now (ends .exit) ≡ appendedAs kind (runsBy nullable) b (areas (now (items .entry)) (now (ends .entry)) (now (flags .entry)) (now (counts .entry)) (now (keys .entry)) (now (lens .entry))) (rowOf kind present value (now (item .entry))) .areas .ends ⌝ }
-    ensures { λ _. ⌜ now (flags .exit) ≡ appendedAs kind (runsBy nullable) b (areas (now (items .entry)) (now (ends .entry)) (now (flags .entry)) (now (counts .entry)) (now (keys .entry)) (now (lens .entry))) (rowOf kind present value (now (item .entry))) .areas .flags ⌝ }
-    ensures { λ _. ⌜ now (counts .exit) ≡ appendedAs kind (runsBy nullable) b (areas (now (items .entry)) (now (ends .entry)) (now (flags .entry)) (now (counts .entry)) (now (keys .entry)) (now (lens .entry))) (rowOf kind present value (now (item .entry))) .areas .counts ⌝ }
-    ensures { λ _. ⌜ now (keys .exit) ≡ appendedAs kind (runsBy nullable) b (areas (now (items .entry)) (now (ends .entry)) (now (flags .entry)) (now (counts .entry)) (now (keys .entry)) (now (lens .entry))) (rowOf kind present value (now (item .entry))) .areas .keys ⌝ }
-    ensures { λ _. ⌜ now (lens .exit) ≡ appendedAs kind (runsBy nullable) b (areas (now (items .entry)) (now (ends .entry)) (now (flags .entry)) (now (counts .entry)) (now (keys .entry)) (now (lens .entry))) (rowOf kind present value (now (item .entry))) .areas .lens ⌝ }
+    ensures { λ r. ⌜ Given (appendedAs kind (runsBy nullable) b (areas (now (items .entry)) (now (ends .entry)) (now (flags .entry)) (now (counts .entry)) (now (keys .entry)) (now (lens .entry))) (rowOf kind present value (now (item .entry)))) r (now (items .exit)) (now (ends .exit)) (now (flags .exit)) (now (counts .exit)) (now (keys .exit)) (now (lens .exit)) ⌝ }
 {
     if needs::runs_wrong(b, kind, nullable) {
         return refused(9, b);
@@ -222,13 +210,7 @@ fn append_key(
     value: i64,
     item: &[u8],
 ) -> Appended
-    ensures { λ r. ⌜ r ≡ appendedAs kind Dictionary b (areas (now (items .entry)) (now (ends .entry)) (now (flags .entry)) (now (counts .entry)) (now (keys .entry)) (now (lens .entry))) (rowOf kind present value (now (item .entry))) .answer ⌝ }
-    ensures { λ _. ⌜ now (items .exit) ≡ appendedAs kind Dictionary b (areas (now (items .entry)) (now (ends .entry)) (now (flags .entry)) (now (counts .entry)) (now (keys .entry)) (now (lens .entry))) (rowOf kind present value (now (item .entry))) .areas .items ⌝ }
-    ensures { λ _. ⌜ now (ends .exit) ≡ appendedAs kind Dictionary b (areas (now (items .entry)) (now (ends .entry)) (now (flags .entry)) (now (counts .entry)) (now (keys .entry)) (now (lens .entry))) (rowOf kind present value (now (item .entry))) .areas .ends ⌝ }
-    ensures { λ _. ⌜ now (flags .exit) ≡ appendedAs kind Dictionary b (areas (now (items .entry)) (now (ends .entry)) (now (flags .entry)) (now (counts .entry)) (now (keys .entry)) (now (lens .entry))) (rowOf kind present value (now (item .entry))) .areas .flags ⌝ }
-    ensures { λ _. ⌜ now (counts .exit) ≡ appendedAs kind Dictionary b (areas (now (items .entry)) (now (ends .entry)) (now (flags .entry)) (now (counts .entry)) (now (keys .entry)) (now (lens .entry))) (rowOf kind present value (now (item .entry))) .areas .counts ⌝ }
-    ensures { λ _. ⌜ now (keys .exit) ≡ appendedAs kind Dictionary b (areas (now (items .entry)) (now (ends .entry)) (now (flags .entry)) (now (counts .entry)) (now (keys .entry)) (now (lens .entry))) (rowOf kind present value (now (item .entry))) .areas .keys ⌝ }
-    ensures { λ _. ⌜ now (lens .exit) ≡ appendedAs kind Dictionary b (areas (now (items .entry)) (now (ends .entry)) (now (flags .entry)) (now (counts .entry)) (now (keys .entry)) (now (lens .entry))) (rowOf kind present value (now (item .entry))) .areas .lens ⌝ }
+    ensures { λ r. ⌜ Given (appendedAs kind Dictionary b (areas (now (items .entry)) (now (ends .entry)) (now (flags .entry)) (now (counts .entry)) (now (keys .entry)) (now (lens .entry))) (rowOf kind present value (now (item .entry)))) r (now (items .exit)) (now (ends .exit)) (now (flags .exit)) (now (counts .exit)) (now (keys .exit)) (now (lens .exit)) ⌝ }
 {
     if needs::keys_wrong(b, kind) {
         return refused(9, b);

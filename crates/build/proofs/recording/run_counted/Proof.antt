@@ -1,6 +1,6 @@
 -- `build::recording::run_counted` meets its contract: each return by the law of the tests and arms that led there. Assumes nothing.
 use Prim.Native.Nat.{_≤_}
-use mathlib.Core.Path.{refl, sym, subst, _∙_}
+use mathlib.Core.Path.{refl, sym, subst}
 use mathlib.Core.Bool.{cond}
 use Rattle.build.specs.declared.Builder.{Builder}
 use Rattle.build.specs.Coding.{runsBy}
