@@ -243,6 +243,22 @@ keys-keyed = refl
 pub keys-stored : (r : Builder) → r .entries ≡ storedBy Dictionary r
 keys-stored r = stored-entries Dictionary r refl
 
+pub rows-told : (e : Encoding) → OneOf (0 ∷ 1 ∷ []) (tagOf the-type e) → {x : Bool} → x ≡ flagged e → e ≡ rowsBy x
+unfolding flagged
+rows-told Plain h q = sym (ap (λ (b : Bool). rowsBy b) q)
+rows-told Nullable h q = sym (ap (λ (b : Bool). rowsBy b) q)
+rows-told RunLength h q = absurd (miss (0 ∷ 1 ∷ []) 2 tt h)
+rows-told RunLengthNullable h q = absurd (miss (0 ∷ 1 ∷ []) 3 tt h)
+rows-told Dictionary h q = absurd (miss (0 ∷ 1 ∷ []) 4 tt h)
+
+pub runs-told : (e : Encoding) → OneOf (2 ∷ 3 ∷ []) (tagOf the-type e) → {x : Bool} → x ≡ flagged e → e ≡ runsBy x
+unfolding flagged
+runs-told Plain h q = absurd (miss (2 ∷ 3 ∷ []) 0 tt h)
+runs-told Nullable h q = absurd (miss (2 ∷ 3 ∷ []) 1 tt h)
+runs-told RunLength h q = sym (ap (λ (b : Bool). runsBy b) q)
+runs-told RunLengthNullable h q = sym (ap (λ (b : Bool). runsBy b) q)
+runs-told Dictionary h q = absurd (miss (2 ∷ 3 ∷ []) 4 tt h)
+
 -- what is known of the encoding that an arm names
 pub told : {A : Type 0} (f : Encoding → A) {e g : Encoding} → e ≡ g → {x : A} → x ≡ f g → x ≡ f e
 told f q h = h ∙ sym (ap f q)

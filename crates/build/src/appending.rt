@@ -290,11 +290,12 @@ impl Builder {
         let Column::Of { kind, encoding } = column else {
             return refused(9, self);
         };
+        let nullable = needs::is_flagged(encoding);
         match encoding {
-            Encoding::Plain => append_row(
+            Encoding::Plain | Encoding::Nullable => append_row(
                 self,
                 kind,
-                false,
+                nullable,
                 items,
                 ends,
                 flags,
@@ -305,38 +306,10 @@ impl Builder {
                 value,
                 item,
             ),
-            Encoding::Nullable => append_row(
+            Encoding::RunLength | Encoding::RunLengthNullable => append_run(
                 self,
                 kind,
-                true,
-                items,
-                ends,
-                flags,
-                counts,
-                keys,
-                lens,
-                present,
-                value,
-                item,
-            ),
-            Encoding::RunLength => append_run(
-                self,
-                kind,
-                false,
-                items,
-                ends,
-                flags,
-                counts,
-                keys,
-                lens,
-                present,
-                value,
-                item,
-            ),
-            Encoding::RunLengthNullable => append_run(
-                self,
-                kind,
-                true,
+                nullable,
                 items,
                 ends,
                 flags,

@@ -1,8 +1,10 @@
 -- `build::Builder::append` meets its contract: each return by the law of the tests and arms that led there. Assumes nothing.
 use mathlib.Core.Path.{refl, _∙_}
-use Rattle.format.specs.declared.Encoding.the-variants.{Plain, Nullable, RunLength, RunLengthNullable, Dictionary}
+use Rattle.format.specs.declared.Encoding.the-variants.{Dictionary}
 use Rattle.build.specs.Needs.{areas}
 use Rattle.build.specs.Building.{appended}
+use Rattle.build.specs.Coding.{rowsBy, runsBy}
+use Rattle.build.proofs.Recorded.{rows-told, runs-told}
 use Rattle.build.proofs.Adding as laws
 use borrow.Author.Needs.{needs}
 use Rattle.build.proofs.Builder.append.Statement.{statement}
@@ -13,6 +15,7 @@ use Rattle.build.proofs.appending.append_key.Reads as append-key-reads
 use Rattle.build.proofs.appending.append_row.Reads as append-row-reads
 use Rattle.build.proofs.appending.append_run.Reads as append-run-reads
 use Rattle.build.proofs.appending.refused.Reads as refused-reads
+use Rattle.build.proofs.needs.is_flagged.Reads as is-flagged-reads
 use Rattle.format.proofs.column_of.Reads as column-of-reads
 
 column-of-requires : tie.Need-column-of-requires
@@ -30,32 +33,17 @@ refused-requires c κs = search needs
 returns : tie.Need-returns
 returns c = let s = c .before .before .before .before .before .before .before .before .before .before in let a = s .args in laws.given (appended (a .self) (areas (a .items .now) (a .ends .now) (a .flags .now) (a .counts .now) (a .keys .now) (a .lens .now)) (a .present) (a .value) (a .item .now)) (laws.column-none (a .self) (areas (a .items .now) (a .ends .now) (a .flags .now) (a .counts .now) (a .keys .now) (a .lens .now)) (a .present) (a .value) (a .item .now) (c .before .before .before .column-of .ensures) (c .before .enum-told .given .1)) (c .refused .ensures, (refl, (refl, (refl, (refl, (refl, refl))))))
 
-enum-told-2 : tie.Need-enum-told-2
-enum-told-2 c = search needs
+is-flagged-requires : tie.Need-is-flagged-requires
+is-flagged-requires c κs = search needs
 
 append-row-requires : tie.Need-append-row-requires
 append-row-requires c κs = search needs
 
-enum-told-3 : tie.Need-enum-told-3
-enum-told-3 c = search needs
-
-append-row-requires-2 : tie.Need-append-row-requires-2
-append-row-requires-2 c κs = search needs
-
-enum-told-4 : tie.Need-enum-told-4
-enum-told-4 c = search needs
-
 append-run-requires : tie.Need-append-run-requires
 append-run-requires c κs = search needs
 
-enum-told-5 : tie.Need-enum-told-5
-enum-told-5 c = search needs
-
-append-run-requires-2 : tie.Need-append-run-requires-2
-append-run-requires-2 c κs = search needs
-
-enum-told-6 : tie.Need-enum-told-6
-enum-told-6 c = search needs
+enum-told-2 : tie.Need-enum-told-2
+enum-told-2 c = search needs
 
 append-key-requires : tie.Need-append-key-requires
 append-key-requires c κs = search needs
@@ -79,7 +67,7 @@ same-length-6 : tie.Need-same-length-6
 same-length-6 c = search needs
 
 returns-2 : tie.Need-returns-2
-returns-2 c = let s = c .before .before .before .before .before .before .before .before .before .before .before .before .before .before .before .before .before .before .before .before .before .before .before .before .before .before .before .before .before .before in let a = s .args in laws.given (appended (a .self) (areas (a .items .now) (a .ends .now) (a .flags .now) (a .counts .now) (a .keys .now) (a .lens .now)) (a .present) (a .value) (a .item .now)) (laws.column-some (a .self) (areas (a .items .now) (a .ends .now) (a .flags .now) (a .counts .now) (a .keys .now) (a .lens .now)) (a .present) (a .value) (a .item .now) (c .before .before .before .before .before .before .before .before .before .before .before .before .before .before .before .before .before .before .before .before .before .before .before .column-of .ensures) (c .before .before .before .before .before .before .before .before .before .before .before .before .before .before .before .before .before .before .before .before .before .column .given .1) ∙ laws.arm (c .before .before .before .before .before .before .before .before .before .before .before .before .before .before .before .before .before .before .before .before .before .column .given .0 .0) Plain (a .self) (areas (a .items .now) (a .ends .now) (a .flags .now) (a .counts .now) (a .keys .now) (a .lens .now)) (a .present) (a .value) (a .item .now) (s .fits .value) (c .before .before .before .before .before .before .before .before .before .before .before .before .before .before .before .before .before .before .enum-told2 .given .1)) (c .before .before .before .before .before .before .before .before .before .before .before .append-row .ensures)
+returns-2 c = let s = c .before .before .before .before .before .before .before .before .before .before .before .before .before .before .before .before .before .before .before .before .before .before .before .before .before .before .before .before .before .before in let a = s .args in laws.given (appended (a .self) (areas (a .items .now) (a .ends .now) (a .flags .now) (a .counts .now) (a .keys .now) (a .lens .now)) (a .present) (a .value) (a .item .now)) (laws.column-some (a .self) (areas (a .items .now) (a .ends .now) (a .flags .now) (a .counts .now) (a .keys .now) (a .lens .now)) (a .present) (a .value) (a .item .now) (c .before .before .before .before .before .before .before .before .before .before .before .before .before .before .before .before .before .before .before .before .before .before .before .column-of .ensures) (c .before .before .before .before .before .before .before .before .before .before .before .before .before .before .before .before .before .before .before .before .before .column .given .1) ∙ laws.arm (c .before .before .before .before .before .before .before .before .before .before .before .before .before .before .before .before .before .before .before .before .before .column .given .0 .0) (rowsBy (c .before .before .before .before .before .before .before .before .before .before .before .before .before .before .before .before .before .before .before .is-flagged .result)) (a .self) (areas (a .items .now) (a .ends .now) (a .flags .now) (a .counts .now) (a .keys .now) (a .lens .now)) (a .present) (a .value) (a .item .now) (s .fits .value) (rows-told (c .before .before .before .before .before .before .before .before .before .before .before .before .before .before .before .before .before .before .before .before .before .column .given .0 .1 .0) (c .before .before .before .before .before .before .before .before .before .before .before .before .before .before .before .before .before .before .match2 .keys1) (c .before .before .before .before .before .before .before .before .before .before .before .before .before .before .before .before .before .before .before .is-flagged .ensures))) (c .before .before .before .before .before .before .before .before .before .before .before .append-row .ensures)
 
 same-length-7 : tie.Need-same-length-7
 same-length-7 c = search needs
@@ -100,7 +88,7 @@ same-length-12 : tie.Need-same-length-12
 same-length-12 c = search needs
 
 returns-3 : tie.Need-returns-3
-returns-3 c = let s = c .before .before .before .before .before .before .before .before .before .before .before .before .before .before .before .before .before .before .before .before .before .before .before .before .before .before .before .before .before .before in let a = s .args in laws.given (appended (a .self) (areas (a .items .now) (a .ends .now) (a .flags .now) (a .counts .now) (a .keys .now) (a .lens .now)) (a .present) (a .value) (a .item .now)) (laws.column-some (a .self) (areas (a .items .now) (a .ends .now) (a .flags .now) (a .counts .now) (a .keys .now) (a .lens .now)) (a .present) (a .value) (a .item .now) (c .before .before .before .before .before .before .before .before .before .before .before .before .before .before .before .before .before .before .before .before .before .before .before .column-of .ensures) (c .before .before .before .before .before .before .before .before .before .before .before .before .before .before .before .before .before .before .before .before .before .column .given .1) ∙ laws.arm (c .before .before .before .before .before .before .before .before .before .before .before .before .before .before .before .before .before .before .before .before .before .column .given .0 .0) Nullable (a .self) (areas (a .items .now) (a .ends .now) (a .flags .now) (a .counts .now) (a .keys .now) (a .lens .now)) (a .present) (a .value) (a .item .now) (s .fits .value) (c .before .before .before .before .before .before .before .before .before .before .before .before .before .before .before .before .before .before .enum-told3 .given .1)) (c .before .before .before .before .before .before .before .before .before .before .before .append-row2 .ensures)
+returns-3 c = let s = c .before .before .before .before .before .before .before .before .before .before .before .before .before .before .before .before .before .before .before .before .before .before .before .before .before .before .before .before .before .before in let a = s .args in laws.given (appended (a .self) (areas (a .items .now) (a .ends .now) (a .flags .now) (a .counts .now) (a .keys .now) (a .lens .now)) (a .present) (a .value) (a .item .now)) (laws.column-some (a .self) (areas (a .items .now) (a .ends .now) (a .flags .now) (a .counts .now) (a .keys .now) (a .lens .now)) (a .present) (a .value) (a .item .now) (c .before .before .before .before .before .before .before .before .before .before .before .before .before .before .before .before .before .before .before .before .before .before .before .column-of .ensures) (c .before .before .before .before .before .before .before .before .before .before .before .before .before .before .before .before .before .before .before .before .before .column .given .1) ∙ laws.arm (c .before .before .before .before .before .before .before .before .before .before .before .before .before .before .before .before .before .before .before .before .before .column .given .0 .0) (runsBy (c .before .before .before .before .before .before .before .before .before .before .before .before .before .before .before .before .before .before .before .is-flagged .result)) (a .self) (areas (a .items .now) (a .ends .now) (a .flags .now) (a .counts .now) (a .keys .now) (a .lens .now)) (a .present) (a .value) (a .item .now) (s .fits .value) (runs-told (c .before .before .before .before .before .before .before .before .before .before .before .before .before .before .before .before .before .before .before .before .before .column .given .0 .1 .0) (c .before .before .before .before .before .before .before .before .before .before .before .before .before .before .before .before .before .before .match2 .keys2) (c .before .before .before .before .before .before .before .before .before .before .before .before .before .before .before .before .before .before .before .is-flagged .ensures))) (c .before .before .before .before .before .before .before .before .before .before .before .append-run .ensures)
 
 same-length-13 : tie.Need-same-length-13
 same-length-13 c = search needs
@@ -121,49 +109,7 @@ same-length-18 : tie.Need-same-length-18
 same-length-18 c = search needs
 
 returns-4 : tie.Need-returns-4
-returns-4 c = let s = c .before .before .before .before .before .before .before .before .before .before .before .before .before .before .before .before .before .before .before .before .before .before .before .before .before .before .before .before .before .before in let a = s .args in laws.given (appended (a .self) (areas (a .items .now) (a .ends .now) (a .flags .now) (a .counts .now) (a .keys .now) (a .lens .now)) (a .present) (a .value) (a .item .now)) (laws.column-some (a .self) (areas (a .items .now) (a .ends .now) (a .flags .now) (a .counts .now) (a .keys .now) (a .lens .now)) (a .present) (a .value) (a .item .now) (c .before .before .before .before .before .before .before .before .before .before .before .before .before .before .before .before .before .before .before .before .before .before .before .column-of .ensures) (c .before .before .before .before .before .before .before .before .before .before .before .before .before .before .before .before .before .before .before .before .before .column .given .1) ∙ laws.arm (c .before .before .before .before .before .before .before .before .before .before .before .before .before .before .before .before .before .before .before .before .before .column .given .0 .0) RunLength (a .self) (areas (a .items .now) (a .ends .now) (a .flags .now) (a .counts .now) (a .keys .now) (a .lens .now)) (a .present) (a .value) (a .item .now) (s .fits .value) (c .before .before .before .before .before .before .before .before .before .before .before .before .before .before .before .before .before .before .enum-told4 .given .1)) (c .before .before .before .before .before .before .before .before .before .before .before .append-run .ensures)
-
-same-length-19 : tie.Need-same-length-19
-same-length-19 c = search needs
-
-same-length-20 : tie.Need-same-length-20
-same-length-20 c = search needs
-
-same-length-21 : tie.Need-same-length-21
-same-length-21 c = search needs
-
-same-length-22 : tie.Need-same-length-22
-same-length-22 c = search needs
-
-same-length-23 : tie.Need-same-length-23
-same-length-23 c = search needs
-
-same-length-24 : tie.Need-same-length-24
-same-length-24 c = search needs
-
-returns-5 : tie.Need-returns-5
-returns-5 c = let s = c .before .before .before .before .before .before .before .before .before .before .before .before .before .before .before .before .before .before .before .before .before .before .before .before .before .before .before .before .before .before in let a = s .args in laws.given (appended (a .self) (areas (a .items .now) (a .ends .now) (a .flags .now) (a .counts .now) (a .keys .now) (a .lens .now)) (a .present) (a .value) (a .item .now)) (laws.column-some (a .self) (areas (a .items .now) (a .ends .now) (a .flags .now) (a .counts .now) (a .keys .now) (a .lens .now)) (a .present) (a .value) (a .item .now) (c .before .before .before .before .before .before .before .before .before .before .before .before .before .before .before .before .before .before .before .before .before .before .before .column-of .ensures) (c .before .before .before .before .before .before .before .before .before .before .before .before .before .before .before .before .before .before .before .before .before .column .given .1) ∙ laws.arm (c .before .before .before .before .before .before .before .before .before .before .before .before .before .before .before .before .before .before .before .before .before .column .given .0 .0) RunLengthNullable (a .self) (areas (a .items .now) (a .ends .now) (a .flags .now) (a .counts .now) (a .keys .now) (a .lens .now)) (a .present) (a .value) (a .item .now) (s .fits .value) (c .before .before .before .before .before .before .before .before .before .before .before .before .before .before .before .before .before .before .enum-told5 .given .1)) (c .before .before .before .before .before .before .before .before .before .before .before .append-run2 .ensures)
-
-same-length-25 : tie.Need-same-length-25
-same-length-25 c = search needs
-
-same-length-26 : tie.Need-same-length-26
-same-length-26 c = search needs
-
-same-length-27 : tie.Need-same-length-27
-same-length-27 c = search needs
-
-same-length-28 : tie.Need-same-length-28
-same-length-28 c = search needs
-
-same-length-29 : tie.Need-same-length-29
-same-length-29 c = search needs
-
-same-length-30 : tie.Need-same-length-30
-same-length-30 c = search needs
-
-returns-6 : tie.Need-returns-6
-returns-6 c = let s = c .before .before .before .before .before .before .before .before .before .before .before .before .before .before .before .before .before .before .before .before .before .before .before .before .before .before .before .before .before .before in let a = s .args in laws.given (appended (a .self) (areas (a .items .now) (a .ends .now) (a .flags .now) (a .counts .now) (a .keys .now) (a .lens .now)) (a .present) (a .value) (a .item .now)) (laws.column-some (a .self) (areas (a .items .now) (a .ends .now) (a .flags .now) (a .counts .now) (a .keys .now) (a .lens .now)) (a .present) (a .value) (a .item .now) (c .before .before .before .before .before .before .before .before .before .before .before .before .before .before .before .before .before .before .before .before .before .before .before .column-of .ensures) (c .before .before .before .before .before .before .before .before .before .before .before .before .before .before .before .before .before .before .before .before .before .column .given .1) ∙ laws.arm (c .before .before .before .before .before .before .before .before .before .before .before .before .before .before .before .before .before .before .before .before .before .column .given .0 .0) Dictionary (a .self) (areas (a .items .now) (a .ends .now) (a .flags .now) (a .counts .now) (a .keys .now) (a .lens .now)) (a .present) (a .value) (a .item .now) (s .fits .value) (c .before .before .before .before .before .before .before .before .before .before .before .before .before .before .before .before .before .before .enum-told6 .given .1)) (c .before .before .before .before .before .before .before .before .before .before .before .append-key .ensures)
+returns-4 c = let s = c .before .before .before .before .before .before .before .before .before .before .before .before .before .before .before .before .before .before .before .before .before .before .before .before .before .before .before .before .before .before .before in let a = s .args in laws.given (appended (a .self) (areas (a .items .now) (a .ends .now) (a .flags .now) (a .counts .now) (a .keys .now) (a .lens .now)) (a .present) (a .value) (a .item .now)) (laws.column-some (a .self) (areas (a .items .now) (a .ends .now) (a .flags .now) (a .counts .now) (a .keys .now) (a .lens .now)) (a .present) (a .value) (a .item .now) (c .before .before .before .before .before .before .before .before .before .before .before .before .before .before .before .before .before .before .before .before .before .before .before .before .column-of .ensures) (c .before .before .before .before .before .before .before .before .before .before .before .before .before .before .before .before .before .before .before .before .before .before .column .given .1) ∙ laws.arm (c .before .before .before .before .before .before .before .before .before .before .before .before .before .before .before .before .before .before .before .before .before .before .column .given .0 .0) Dictionary (a .self) (areas (a .items .now) (a .ends .now) (a .flags .now) (a .counts .now) (a .keys .now) (a .lens .now)) (a .present) (a .value) (a .item .now) (s .fits .value) (c .before .before .before .before .before .before .before .before .before .before .before .before .before .before .before .before .before .before .enum-told2 .given .1)) (c .before .before .before .before .before .before .before .before .before .before .before .append-key .ensures)
 
 pub append-spec : {M : Type 1} → statement M
 append-spec =
@@ -174,15 +120,10 @@ append-spec =
     enum-told
     refused-requires
     returns
-    enum-told-2
+    is-flagged-requires
     append-row-requires
-    enum-told-3
-    append-row-requires-2
-    enum-told-4
     append-run-requires
-    enum-told-5
-    append-run-requires-2
-    enum-told-6
+    enum-told-2
     append-key-requires
     same-length
     same-length-2
@@ -204,18 +145,4 @@ append-spec =
     same-length-16
     same-length-17
     same-length-18
-    returns-4
-    same-length-19
-    same-length-20
-    same-length-21
-    same-length-22
-    same-length-23
-    same-length-24
-    returns-5
-    same-length-25
-    same-length-26
-    same-length-27
-    same-length-28
-    same-length-29
-    same-length-30
-    returns-6)
+    returns-4)
