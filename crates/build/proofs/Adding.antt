@@ -1,11 +1,11 @@
 -- Append: the slots that a row needs are there, and the answer on each way through the code. Assumes nothing.
-use Prim.Native.Nat.{ℕ, zero, suc, _+_, _-_, _*_, _/_, _^_, _≤_, _<_}
+use Prim.Native.Nat.{ℕ, _+_, _-_, _*_, _/_, _^_, _≤_, _<_}
 use native.Mathlib.Omega.{arith}
 use mathlib.Core.Path.{_≡_, refl, sym, ap, subst, _∙_}
 use mathlib.Core.Bool.{Bool, true, false, cond, not, _&&_, _||_}
-use mathlib.Core.List.{List, []}
+use mathlib.Core.List.{List}
 use lib.Dec.{ltb, eqb}
-use lib.IntN.{ℤ, pos}
+use lib.IntN.{ℤ}
 use lib.ListN.{length, set}
 use borrow.Author.Tests.{ltb-false, eqb-true, not-true, not-false}
 use mir.Syntax.{w32, w64}
@@ -33,8 +33,8 @@ use Rattle.build.specs.declared.Step.the-variants.{Row as Adds, Wrong}
 use Rattle.build.specs.declared.Appended.{Appended}
 use Rattle.build.specs.Needs.{Areas, areas, roomOf, coded, flagged, keyed, storedBy, finishedBytes, countsPast, pastLimits, bytesWrong, recordWrong, fieldsShort, runsShort, short}
 use Rattle.build.specs.Building.{Append, appendOf, heldIn, stepOf, grown, written, counted, appendedBy, appendedAs, appendedIn, appended}
-use Rattle.build.specs.Coding.{Ready, answer, answerBy, Stores, Counts}
-use Rattle.build.proofs.Recorded.{apart, neither, or-first, or-then, or-none, and-then, and-not, Right, right}
+use Rattle.build.specs.Coding.{Ready, answer, answerBy, Stores, Given}
+use Rattle.build.proofs.Recorded.{apart, neither, or-first, or-then, or-none, and-then, right}
 use Rattle.build.proofs.Growing.{finished-holds, not-joined}
 use Rattle.build.proofs.Steps.{step-says, step-fits}
 
@@ -135,7 +135,7 @@ limit-holds k e r h = ltb-false 16777216 (finishedBytes k e r) (neither (countsP
 stored-slots :
     (e : Encoding) (r : Builder) (k : Kind) (a : Areas) (bit len : ℕ) (joins : Bool) → (keyed e ≡ false → true ≡ not joins)
     → pastLimits k e (grown e r bit len true joins) ≡ false → Fitting k e (grown e r bit len true joins) (roomOf a)
-    → (row : Row) → fits k row ≡ true → len ≡ length (itemOf k row) → Stores k e r row len (a .items) (a .ends) (a .flags) (a .lens)
+    → (row : Row) → fits k row ≡ true → len ≡ length (itemOf k row) → Stores k (flagged e) (storedBy e r) (r .bytes) row len (a .items) (a .ends) (a .flags) (a .lens)
 unfolding roomOf
 stored-slots e r k a bit len joins j p f row t l =
     let n = stored-next e r bit len joins j in
@@ -154,157 +154,117 @@ stored-slots e r k a bit len joins j p f row t l =
       flags = λ t. flag-room (storedBy e r) (length (a .flags)) (subst (λ (x : ℕ). bitmapLength x ≤ length (a .flags)) n (f .flags t));
     }
 
-not-false-so : (x : Bool) → (x && true) ≡ true → x ≡ true
-not-false-so true h = refl
-not-false-so false h = h
+-- the slots of its run
+abbrev pub Counts : Builder → Bool → Bool → List ℕ → List ℤ → Type 0
+Counts r keyed joins cs ks =
+    (joins ≡ true → (0 < r .runs) × (r .runs ≤ length cs) × (r .last < 4294967295)) × (joins ≡ false → r .runs < length cs)
+    × ((keyed && not joins) ≡ true → r .runs < length ks)
 
 run-slots :
     (e : Encoding) (r : Builder) (k : Kind) (a : Areas) (bit len : ℕ) (item joins : Bool) → Fitting k e (grown e r bit len item joins) (roomOf a)
-    → (joins ≡ true → (0 < r .runs) × (r .last < 4294967295)) → coded e ≡ true → Counts e r joins (a .counts) (a .keys)
+    → (joins ≡ true → (0 < r .runs) × (r .last < 4294967295)) → coded e ≡ true → {d : Bool} → d ≡ keyed e → Counts r d joins (a .counts) (a .keys)
 unfolding roomOf grown
-run-slots e r k a bit len item true f o c =
+run-slots e r k a bit len item true f o c {d} q =
     let i = f .counts c in
     let z : cond (coded e && false) (r .runs + 1) (r .runs) ≡ r .runs = ap (λ (b : Bool). cond (b && false) (r .runs + 1) (r .runs)) c in
-    record {
-      joined = λ t. (o t .0, omega (arith, i, z), o t .1);
-      begun = λ t. apart t;
-      named = λ t. apart (not-both (keyed e) t);
-    }
+    (λ t. (o t .0, omega (arith, i, z), o t .1), λ t. apart t, λ t. apart (not-both d t))
   where
     not-both : (x : Bool) → (x && false) ≡ true → true ≡ false
     not-both true h = sym h
     not-both false h = sym h
-run-slots e r k a bit len item false f o c =
+run-slots e r k a bit len item false f o c {d} q =
     let i = f .counts c in
     let n : grown e r bit len item false .runs ≡ r .runs + 1 = ap (λ (b : Bool). cond (b && true) (r .runs + 1) (r .runs)) c in
-    record {
-      joined = λ t. apart (sym t);
-      begun = λ t. omega (arith, i, n);
-      named = λ t. let g = f .keys (not-false-so (keyed e) t) in omega (arith, g, n);
-    }
+    (λ t. apart (sym t), λ t. omega (arith, i, n), λ t. let g = f .keys (sym q ∙ both-so d t) in omega (arith, g, n))
+  where
+    both-so : (x : Bool) → (x && true) ≡ true → x ≡ true
+    both-so true h = refl
+    both-so false h = h
 
 module _ (k : Kind) (e : Encoding) (r : Builder) (a : Areas) (bit len : ℕ) (item joins : Bool) (j : keyed e ≡ false → item ≡ not joins)
     (p : pastLimits k e (grown e r bit len item joins) ≡ false) (s : short k e (grown e r bit len item joins) (roomOf a) ≡ false) where
   fits-next : Fitting k e (grown e r bit len item joins) (roomOf a)
   fits-next = fitting k e (grown e r bit len item joins) (roomOf a) s
 
-  pub stores : (row : Row) → fits k row ≡ true → len ≡ length (itemOf k row) → item ≡ true → Stores k e r row len (a .items) (a .ends) (a .flags) (a .lens)
+  pub stores : (row : Row) → fits k row ≡ true → len ≡ length (itemOf k row) → item ≡ true → Stores k (flagged e) (storedBy e r) (r .bytes) row len (a .items) (a .ends) (a .flags) (a .lens)
   stores row t l i = go item i j p fits-next
     where
       go :
           (item : Bool) → item ≡ true → (keyed e ≡ false → item ≡ not joins) → pastLimits k e (grown e r bit len item joins) ≡ false
-          → Fitting k e (grown e r bit len item joins) (roomOf a) → Stores k e r row len (a .items) (a .ends) (a .flags) (a .lens)
+          → Fitting k e (grown e r bit len item joins) (roomOf a) → Stores k (flagged e) (storedBy e r) (r .bytes) row len (a .items) (a .ends) (a .flags) (a .lens)
       go false i j p f = apart (sym i)
       go true i j p f = stored-slots e r k a bit len joins j p f row t l
 
-  pub counts : (joins ≡ true → (0 < r .runs) × (r .last < 4294967295)) → coded e ≡ true → Counts e r joins (a .counts) (a .keys)
-  counts o c = run-slots e r k a bit len item joins fits-next o c
+  pub counts : (joins ≡ true → (0 < r .runs) × (r .last < 4294967295)) → coded e ≡ true → {d : Bool} → d ≡ keyed e → Counts r d joins (a .counts) (a .keys)
+  counts o c q = run-slots e r k a bit len item joins fits-next o c q
 
 -- ---- what is written
-coded-keyed : (e : Encoding) → coded e ≡ false → keyed e ≡ false
-unfolding coded keyed
-coded-keyed Plain h = refl
-coded-keyed Nullable h = refl
-coded-keyed RunLength h = refl
-coded-keyed RunLengthNullable h = refl
-coded-keyed Dictionary h = apart h
-
-module _ (e : Encoding) (r : Builder) (joins : Bool) (key : ℤ) (cs : List ℕ) (ks : List ℤ) {x : Bool} (q : x ≡ coded e) where
-  pub run-kept :
-      not x ≡ true
-      → (cs ≡ cond (coded e) (countsWith (r .runs) (r .last) joins cs) cs) × (ks ≡ cond (keyed e && not joins) (set ks (r .runs) key) ks)
-  run-kept t =
-      let f = sym q ∙ not-true x t in (
-        sym (ap (λ (b : Bool). cond b (countsWith (r .runs) (r .last) joins cs) cs) f),
-        sym (ap (λ (b : Bool). cond (b && not joins) (set ks (r .runs) key) ks) (coded-keyed e f)),
-      )
-
-  pub run-asks :
-      not x ≡ false → (coded e ≡ true → Counts e r joins cs ks) → {y : Bool} → y ≡ keyed e
-      → (joins ≡ true → (0 < r .runs) × (r .runs ≤ length cs) × (r .last < 4294967295)) × (joins ≡ false → r .runs < length cs)
-      × ((y && not joins) ≡ true → r .runs < length ks)
-  run-asks t h {y} p =
-      let w = h (sym q ∙ not-false x t) in
-      (w .joined, w .begun, λ u. w .named (ap (λ (b : Bool). b && not joins) (sym p) ∙ u))
-
-  pub run-set :
-      not x ≡ false → {y : Bool} → y ≡ keyed e → SFits w32 key → {c : List ℕ} {l : List ℤ} → c ≡ countsWith (r .runs) (r .last) joins cs
-      → l ≡ cond (y && not joins) (set ks (r .runs) (toZ w32 (ofZ w32 key))) ks
-      → (c ≡ cond (coded e) (countsWith (r .runs) (r .last) joins cs) cs) × (l ≡ cond (keyed e && not joins) (set ks (r .runs) key) ks)
-  run-set t {y} p f g h = (
-    g ∙ sym (ap (λ (b : Bool). cond b (countsWith (r .runs) (r .last) joins cs) cs) (sym q ∙ not-false x t)),
-    h ∙ ap (λ (b : Bool). cond (b && not joins) (set ks (r .runs) (toZ w32 (ofZ w32 key))) ks) p
-        ∙ ap (λ (z : ℤ). cond (keyed e && not joins) (set ks (r .runs) z) ks) (toZ-ofZ f),
-  )
-
-module _ (k : Kind) (e : Encoding) (r : Builder) (present : Bool) (v : ℤ) (bs : List ℕ) (len : ℕ) (is es fs ls : List ℕ) (stored : Bool) where
+module _ (k : Kind) (f : Bool) (i at : ℕ) (present : Bool) (v : ℤ) (bs : List ℕ) (len : ℕ) (is es fs ls : List ℕ) (stored : Bool) where
   abbrev pub Put : List ℕ → List ℕ → List ℕ → List ℕ → Type 0
   Put is′ es′ fs′ ls′ =
-      (is′ ≡ cond stored (over is (r .bytes) (itemOf k (rowOf k present v bs))) is)
-      × ((es′ ≡ cond stored (endsWith k (storedBy e r) (r .bytes + length (itemOf k (rowOf k present v bs))) es) es)
-      × ((fs′ ≡ cond (stored && flagged e) (flagsWith (storedBy e r) (presence (rowOf k present v bs)) fs) fs)
-      × (ls′ ≡ cond stored (lensWith k (storedBy e r) (length (bytesIn (rowOf k present v bs))) ls) ls)))
+      (is′ ≡ cond stored (over is at (itemOf k (rowOf k present v bs))) is)
+      × ((es′ ≡ cond stored (endsWith k i (at + length (itemOf k (rowOf k present v bs))) es) es)
+      × ((fs′ ≡ cond (stored && f) (flagsWith i (presence (rowOf k present v bs)) fs) fs)
+      × (ls′ ≡ cond stored (lensWith k i (length (bytesIn (rowOf k present v bs))) ls) ls)))
 
   pub item-kept : not stored ≡ true → Put is es fs ls
   item-kept t = go stored (not-true stored t)
     where
       go : (b : Bool) → b ≡ false
-          → (is ≡ cond b (over is (r .bytes) (itemOf k (rowOf k present v bs))) is)
-          × ((es ≡ cond b (endsWith k (storedBy e r) (r .bytes + length (itemOf k (rowOf k present v bs))) es) es)
-          × ((fs ≡ cond (b && flagged e) (flagsWith (storedBy e r) (presence (rowOf k present v bs)) fs) fs)
-          × (ls ≡ cond b (lensWith k (storedBy e r) (length (bytesIn (rowOf k present v bs))) ls) ls)))
+          → (is ≡ cond b (over is at (itemOf k (rowOf k present v bs))) is)
+          × ((es ≡ cond b (endsWith k i (at + length (itemOf k (rowOf k present v bs))) es) es)
+          × ((fs ≡ cond (b && f) (flagsWith i (presence (rowOf k present v bs)) fs) fs)
+          × (ls ≡ cond b (lensWith k i (length (bytesIn (rowOf k present v bs))) ls) ls)))
       go true h = apart h
       go false h = (refl, (refl, (refl, refl)))
 
-  module _ (t : not stored ≡ false) (h : stored ≡ true → Stores k e r (rowOf k present v bs) len is es fs ls) where
-    here : Stores k e r (rowOf k present v bs) len is es fs ls
+  module _ (t : not stored ≡ false) (h : stored ≡ true → Stores k f i at (rowOf k present v bs) len is es fs ls) where
+    here : Stores k f i at (rowOf k present v bs) len is es fs ls
     here = h (not-false stored t)
 
-    pub item-small : Fits w64 (r .bytes + len)
+    pub item-small : Fits w64 (at + len)
     item-small = let s = here .small in record { fits = omega arith }
 
-    module _ (f : SFits w64 v) where
+    module _ (n : SFits w64 v) where
       same-row : rowOf k present (toZ w64 (ofZ w64 v)) bs ≡ rowOf k present v bs
-      same-row = ap (λ (z : ℤ). rowOf k present z bs) (toZ-ofZ f)
+      same-row = ap (λ (z : ℤ). rowOf k present z bs) (toZ-ofZ n)
 
-      module _ {x : Bool} (q : x ≡ flagged e) {i : ℕ} (p : i ≡ storedBy e r) where
-        pub item-asks :
-            (fits k (rowOf k present (toZ w64 (ofZ w64 v)) bs) ≡ true)
-            × (r .bytes + len ≡ r .bytes + length (itemOf k (rowOf k present (toZ w64 (ofZ w64 v)) bs)))
-            × (r .bytes + len ≤ length is) × (r .bytes + len < 2 ^ 32) × (k ≡ Blob → i < length es)
-            × ((w : ℕ) → k ≡ Char w → i < length ls) × (x ≡ true → i / 8 < length fs)
-        item-asks =
-            let s = here in (
-              ap (fits k) same-row ∙ s .taken,
-              ap (λ (n : ℕ). r .bytes + n) (s .long ∙ sym (ap (λ (z : Row). length (itemOf k z)) same-row)),
-              s .items,
-              s .small,
-              λ z. subst (λ (n : ℕ). n < length es) (sym p) (s .ends z),
-              λ w z. subst (λ (n : ℕ). n < length ls) (sym p) (s .lens w z),
-              λ z. subst (λ (n : ℕ). n / 8 < length fs) (sym p) (s .flags (sym q ∙ z)),
-            )
+      pub item-asks :
+          (fits k (rowOf k present (toZ w64 (ofZ w64 v)) bs) ≡ true)
+          × (at + len ≡ at + length (itemOf k (rowOf k present (toZ w64 (ofZ w64 v)) bs)))
+          × (at + len ≤ length is) × (at + len < 2 ^ 32) × (k ≡ Blob → i < length es)
+          × ((w : ℕ) → k ≡ Char w → i < length ls) × (f ≡ true → i / 8 < length fs)
+      item-asks =
+          let s = here in (
+            ap (fits k) same-row ∙ s .taken,
+            ap (λ (n : ℕ). at + n) (s .long ∙ sym (ap (λ (z : Row). length (itemOf k z)) same-row)),
+            s .items,
+            s .small,
+            s .ends,
+            s .lens,
+            s .flags,
+          )
 
-        pub item-put :
-            {is′ es′ fs′ ls′ : List ℕ} → is′ ≡ over is (r .bytes) (itemOf k (rowOf k present (toZ w64 (ofZ w64 v)) bs)) → es′ ≡ endsWith k i (r .bytes + len) es
-            → fs′ ≡ cond x (flagsWith i (presence (rowOf k present (toZ w64 (ofZ w64 v)) bs)) fs) fs
-            → ls′ ≡ lensWith k i (length (bytesIn (rowOf k present (toZ w64 (ofZ w64 v)) bs))) ls → Put is′ es′ fs′ ls′
-        item-put a b c d =
-            let s = here in
-            let u = not-false stored t in (
-              a ∙ ap (λ (z : Row). over is (r .bytes) (itemOf k z)) same-row
-                  ∙ sym (ap (λ (y : Bool). cond y (over is (r .bytes) (itemOf k (rowOf k present v bs))) is) u),
+      pub item-put :
+          {is′ es′ fs′ ls′ : List ℕ} → is′ ≡ over is at (itemOf k (rowOf k present (toZ w64 (ofZ w64 v)) bs)) → es′ ≡ endsWith k i (at + len) es
+          → fs′ ≡ cond f (flagsWith i (presence (rowOf k present (toZ w64 (ofZ w64 v)) bs)) fs) fs
+          → ls′ ≡ lensWith k i (length (bytesIn (rowOf k present (toZ w64 (ofZ w64 v)) bs))) ls → Put is′ es′ fs′ ls′
+      item-put a b c d =
+          let s = here in
+          let u = not-false stored t in (
+            a ∙ ap (λ (z : Row). over is at (itemOf k z)) same-row
+                ∙ sym (ap (λ (y : Bool). cond y (over is at (itemOf k (rowOf k present v bs))) is) u),
+            (
+              b ∙ ap (λ (n : ℕ). endsWith k i (at + n) es) (s .long)
+                  ∙ sym (ap (λ (y : Bool). cond y (endsWith k i (at + length (itemOf k (rowOf k present v bs))) es) es) u),
               (
-                b ∙ ap (λ (n : ℕ). endsWith k n (r .bytes + len) es) p ∙ ap (λ (n : ℕ). endsWith k (storedBy e r) (r .bytes + n) es) (s .long)
-                    ∙ sym (ap (λ (y : Bool). cond y (endsWith k (storedBy e r) (r .bytes + length (itemOf k (rowOf k present v bs))) es) es) u),
-                (
-                  c ∙ ap (λ (z : Row). cond x (flagsWith i (presence z) fs) fs) same-row ∙ ap (λ (n : ℕ). cond x (flagsWith n (presence (rowOf k present v bs)) fs) fs) p
-                      ∙ ap (λ (y : Bool). cond y (flagsWith (storedBy e r) (presence (rowOf k present v bs)) fs) fs) q
-                      ∙ sym (ap (λ (y : Bool). cond (y && flagged e) (flagsWith (storedBy e r) (presence (rowOf k present v bs)) fs) fs) u),
-                  d ∙ ap (λ (z : Row). lensWith k i (length (bytesIn z)) ls) same-row ∙ ap (λ (n : ℕ). lensWith k n (length (bytesIn (rowOf k present v bs))) ls) p
-                      ∙ sym (ap (λ (y : Bool). cond y (lensWith k (storedBy e r) (length (bytesIn (rowOf k present v bs))) ls) ls) u),
-                ),
+                c ∙ ap (λ (z : Row). cond f (flagsWith i (presence z) fs) fs) same-row
+                    ∙ sym (ap (λ (y : Bool). cond (y && f) (flagsWith i (presence (rowOf k present v bs)) fs) fs) u),
+                d ∙ ap (λ (z : Row). lensWith k i (length (bytesIn z)) ls) same-row
+                    ∙ sym (ap (λ (y : Bool). cond y (lensWith k i (length (bytesIn (rowOf k present v bs))) ls) ls) u),
               ),
-            )
+            ),
+          )
 
 -- ---- the answer
 module _ (r : Builder) (a : Areas) (present : Bool) (v : ℤ) (bs : List ℕ) {c : Column} (q : c ≡ columnOf (r .kind) (r .encoding) (r .width)) where
@@ -315,6 +275,13 @@ module _ (r : Builder) (a : Areas) (present : Bool) (v : ℤ) (bs : List ℕ) {c
   pub column-some : {k : Kind} {e : Encoding} → c ≡ Of k e → appended r a present v bs ≡ appendedAs k e r a (rowOf k present v bs)
   unfolding appended appendedIn
   column-some t = ap (λ (x : Column). appendedIn x r a present v bs) (sym q ∙ t)
+
+-- in the arm that names the encoding; the integer has been passed on
+pub arm :
+    (k : Kind) {e : Encoding} (g : Encoding) (r : Builder) (a : Areas) (present : Bool) (v : ℤ) (bs : List ℕ) → SFits w64 v → e ≡ g
+    → appendedAs k e r a (rowOf k present v bs) ≡ appendedAs k g r a (rowOf k present (toZ w64 (ofZ w64 v)) bs)
+arm k g r a present v bs f q =
+    ap (λ (x : Encoding). appendedAs k x r a (rowOf k present v bs)) q ∙ ap (λ (z : ℤ). appendedAs k g r a (rowOf k present z bs)) (sym (toZ-ofZ f))
 
 module _ (k : Kind) (e : Encoding) (r : Builder) (a : Areas) (row : Row) where
   tested-as : (b : Bool) → (recordWrong k e r || short k e r (roomOf a)) ≡ b → appendedAs k e r a row ≡ cond b (appendOf 9 r a) (appendedBy k e r a row (stepOf k e r (heldIn a) (a .keys) row))
@@ -402,20 +369,11 @@ module _ (k : Kind) (e : Encoding) (r : Builder) (a : Areas) (next : Builder) (a
       → (counted k e r a next after ≡ withAreas n after) × (pastLimits k e next ≡ false) × (short k e next (roomOf a) ≡ false)
   counted-done h = counted-by (pastLimits k e next) (short k e next (roomOf a)) refl refl h .1
 
--- what the promise says, from the whole answer
-abbrev pub Given : Append → Appended → List ℕ → List ℕ → List ℕ → List ℕ → List ℤ → List ℕ → Type 0
-Given x n is es fs cs ks ls =
-    (n ≡ x .answer)
-    × ((is ≡ x .areas .items)
-    × ((es ≡ x .areas .ends)
-    × ((fs ≡ x .areas .flags) × ((cs ≡ x .areas .counts) × ((ks ≡ x .areas .keys) × (ls ≡ x .areas .lens))))))
-
 pub given : (x : Append) {y : Append} → x ≡ y → {n : Appended} {is es fs cs ls : List ℕ} {ks : List ℤ} → Given y n is es fs cs ks ls → Given x n is es fs cs ks ls
 given x {y} q {n} {is} {es} {fs} {cs} {ls} {ks} g = subst (λ (z : Append). Given z n is es fs cs ks ls) (sym q) g
 
--- ---- the whole way, where the column is known, the record right and no area short; the integer has been passed on
+-- ---- the whole way, where the record is right and no area short; the integer has been passed on
 module _ (k : Kind) (e : Encoding) (r : Builder) (a : Areas) (present : Bool) (v : ℤ) (bs : List ℕ) (f : SFits w64 v)
-    {c : Column} (q : c ≡ columnOf (r .kind) (r .encoding) (r .width)) (t : c ≡ Of k e)
     {x : Bool} (w : x ≡ recordWrong k e r) (w₀ : x ≡ false) {y : Bool} (p : y ≡ short k e r (roomOf a)) (p₀ : y ≡ false) where
   abbrev row : Row
   row = rowOf k present v bs
@@ -433,14 +391,13 @@ module _ (k : Kind) (e : Encoding) (r : Builder) (a : Areas) (present : Bool) (v
     step-row : s ≡ stepOf k e r (heldIn a) (a .keys) row
     step-row = o ∙ ap (stepOf k e r (heldIn a) (a .keys)) passed-row
 
-    pub field-refused : s ≡ Wrong → appended r a present v bs ≡ appendOf 9 r a
-    field-refused g = column-some r a present v bs q t ∙ step-wrong k e r a row w w₀ p p₀ step-row g
+    pub field-refused : s ≡ Wrong → appendedAs k e r a row ≡ appendOf 9 r a
+    field-refused g = step-wrong k e r a row w w₀ p p₀ step-row g
 
     module _ {item joins : Bool} {key : ℤ} (g : s ≡ Adds item joins key) {z : Bool} (h : z ≡ fits k passed) where
-      pub kind-refused : not z ≡ true → appended r a present v bs ≡ appendOf 2 r a
+      pub kind-refused : not z ≡ true → appendedAs k e r a row ≡ appendOf 2 r a
       kind-refused u =
-          column-some r a present v bs q t
-          ∙ row-refused k e r a row w w₀ p p₀ step-row g (h ∙ ap (fits k) passed-row) (not-true z u)
+          row-refused k e r a row w w₀ p p₀ step-row g (h ∙ ap (fits k) passed-row) (not-true z u)
 
       module _ (u : not z ≡ false) {len : ℕ} (l : len ≡ length (itemOf k passed)) where
         taken : fits k passed ≡ true
@@ -462,12 +419,11 @@ module _ (k : Kind) (e : Encoding) (r : Builder) (a : Areas) (present : Bool) (v
           answered : n ≡ answerBy k e r (roomOf a) next
           answered = m ∙ ap (answerBy k e r (roomOf a)) same-next
 
-          counted-row : appended r a present v bs ≡ counted k e r a next (written k e r row item joins key a)
+          counted-row : appendedAs k e r a row ≡ counted k e r a next (written k e r row item joins key a)
           counted-row =
-              column-some r a present v bs q t
-              ∙ row-taken k e r a row w w₀ p p₀ step-row g (h ∙ ap (fits k) passed-row) (not-false z u)
+              row-taken k e r a row w w₀ p p₀ step-row g (h ∙ ap (fits k) passed-row) (not-false z u)
 
-          pub count-refused : (n .number ≡ 0 → ⊥) → appended r a present v bs ≡ withAreas n a
+          pub count-refused : (n .number ≡ 0 → ⊥) → appendedAs k e r a row ≡ withAreas n a
           count-refused d = counted-row ∙ counted-refused k e r a next (written k e r row item joins key a) answered d
 
           module _ (d : n .number ≡ 0) where
@@ -481,42 +437,63 @@ module _ (k : Kind) (e : Encoding) (r : Builder) (a : Areas) (present : Bool) (v
             fitted : short k e (grown e r (cond present 1 0) len item joins) (roomOf a) ≡ false
             fitted = ap (λ (b : Builder). short k e b (roomOf a)) same-next ∙ all .2
 
-            pub asks-item : item ≡ true → Stores k e r passed len (a .items) (a .ends) (a .flags) (a .lens)
-            asks-item = stores k e r a (cond present 1 0) len item joins (says .1) limits fitted passed taken l
-
-            pub asks-run : coded e ≡ true → Counts e r joins (a .counts) (a .keys)
+            pub asks-run : coded e ≡ true → {d : Bool} → d ≡ keyed e → Counts r d joins (a .counts) (a .keys)
             asks-run = counts k e r a (cond present 1 0) len item joins (says .1) limits fitted (says .0)
 
             key-small : SFits w32 key
             key-small = step-fits k e r (heldIn a) (a .keys) row (right k e r (sym w ∙ w₀) .few .entries) (sym g ∙ step-row)
 
-            pub row-done :
-                {is es fs cs ls : List ℕ} {ks : List ℤ}
-                → is ≡ cond item (over (a .items) (r .bytes) (itemOf k passed)) (a .items)
-                → es ≡ cond item (endsWith k (storedBy e r) (r .bytes + length (itemOf k passed)) (a .ends)) (a .ends)
-                → fs ≡ cond (item && flagged e) (flagsWith (storedBy e r) (presence passed) (a .flags)) (a .flags)
-                → cs ≡ cond (coded e) (countsWith (r .runs) (r .last) joins (a .counts)) (a .counts)
-                → ks ≡ cond (keyed e && not joins) (set (a .keys) (r .runs) (toZ w32 (ofZ w32 key))) (a .keys)
-                → ls ≡ cond item (lensWith k (storedBy e r) (length (bytesIn passed)) (a .lens)) (a .lens)
-                → Given (appended r a present v bs) n is es fs cs ks ls
-            unfolding written
-            row-done i₁ i₂ i₃ i₄ i₅ i₆ =
-                given (appended r a present v bs) (counted-row ∙ all .0) (
-                  refl,
+            module _ {i : ℕ} (is-stored : i ≡ storedBy e r) {nullable : Bool} (is-flagged : nullable ≡ flagged e) where
+              pub asks-item : item ≡ true → Stores k nullable i (r .bytes) passed len (a .items) (a .ends) (a .flags) (a .lens)
+              asks-item z =
+                  subst (λ (n : ℕ). Stores k nullable n (r .bytes) passed len (a .items) (a .ends) (a .flags) (a .lens)) (sym is-stored)
+                  (subst (λ (b : Bool). Stores k b (storedBy e r) (r .bytes) passed len (a .items) (a .ends) (a .flags) (a .lens)) (sym is-flagged)
+                  (stores k e r a (cond present 1 0) len item joins (says .1) limits fitted passed taken l z))
+
+              row-put :
+                  {is es fs ls : List ℕ} → Put k nullable i (r .bytes) present (toZ w64 (ofZ w64 v)) bs len (a .items) (a .ends) (a .flags) (a .lens) item is es fs ls
+                  → Put k (flagged e) (storedBy e r) (r .bytes) present v bs len (a .items) (a .ends) (a .flags) (a .lens) item is es fs ls
+              row-put o = (
+                o .0 ∙ ap (λ (z : Row). cond item (over (a .items) (r .bytes) (itemOf k z)) (a .items)) passed-row,
+                (
+                  o .1 .0 ∙ ap (λ (z : Row). cond item (endsWith k i (r .bytes + length (itemOf k z)) (a .ends)) (a .ends)) passed-row
+                      ∙ ap (λ (n : ℕ). cond item (endsWith k n (r .bytes + length (itemOf k row)) (a .ends)) (a .ends)) is-stored,
                   (
-                    i₁ ∙ ap (λ (z : Row). cond item (over (a .items) (r .bytes) (itemOf k z)) (a .items)) passed-row,
+                    o .1 .1 .0 ∙ ap (λ (z : Row). cond (item && nullable) (flagsWith i (presence z) (a .flags)) (a .flags)) passed-row
+                        ∙ ap (λ (n : ℕ). cond (item && nullable) (flagsWith n (presence row) (a .flags)) (a .flags)) is-stored
+                        ∙ ap (λ (b : Bool). cond (item && b) (flagsWith (storedBy e r) (presence row) (a .flags)) (a .flags)) is-flagged,
+                    o .1 .1 .1 ∙ ap (λ (z : Row). cond item (lensWith k i (length (bytesIn z)) (a .lens)) (a .lens)) passed-row
+                        ∙ ap (λ (n : ℕ). cond item (lensWith k n (length (bytesIn row)) (a .lens)) (a .lens)) is-stored,
+                  ),
+                ),
+              )
+
+              pub row-done :
+                  {is es fs cs ls : List ℕ} {ks : List ℤ}
+                  → Put k nullable i (r .bytes) present (toZ w64 (ofZ w64 v)) bs len (a .items) (a .ends) (a .flags) (a .lens) item is es fs ls
+                  → {b d : Bool} → b ≡ coded e → cs ≡ cond b (countsWith (r .runs) (r .last) joins (a .counts)) (a .counts)
+                  → d ≡ keyed e → ks ≡ cond (d && not joins) (set (a .keys) (r .runs) (toZ w32 (ofZ w32 key))) (a .keys)
+                  → Given (appendedAs k e r a row) n is es fs cs ks ls
+              unfolding written
+              row-done put {b} {d} is-coded i₄ is-keyed i₅ =
+                  let p = row-put put in
+                  given (appendedAs k e r a row) (counted-row ∙ all .0) (
+                    refl,
                     (
-                      i₂ ∙ ap (λ (z : Row). cond item (endsWith k (storedBy e r) (r .bytes + length (itemOf k z)) (a .ends)) (a .ends)) passed-row,
+                      p .0,
                       (
-                        i₃ ∙ ap (λ (z : Row). cond (item && flagged e) (flagsWith (storedBy e r) (presence z) (a .flags)) (a .flags)) passed-row,
+                        p .1 .0,
                         (
-                          i₄,
+                          p .1 .1 .0,
                           (
-                            i₅ ∙ ap (λ (z : ℤ). cond (keyed e && not joins) (set (a .keys) (r .runs) z) (a .keys)) (toZ-ofZ key-small),
-                            i₆ ∙ ap (λ (z : Row). cond item (lensWith k (storedBy e r) (length (bytesIn z)) (a .lens)) (a .lens)) passed-row,
+                            i₄ ∙ ap (λ (z : Bool). cond z (countsWith (r .runs) (r .last) joins (a .counts)) (a .counts)) is-coded,
+                            (
+                              i₅ ∙ ap (λ (z : Bool). cond (z && not joins) (set (a .keys) (r .runs) (toZ w32 (ofZ w32 key))) (a .keys)) is-keyed
+                                  ∙ ap (λ (z : ℤ). cond (keyed e && not joins) (set (a .keys) (r .runs) z) (a .keys)) (toZ-ofZ key-small),
+                              p .1 .1 .1,
+                            ),
                           ),
                         ),
                       ),
                     ),
-                  ),
-                )
+                  )

@@ -1,12 +1,12 @@
 -- The record with one row more, on each way through the code of recording. Assumes nothing.
-use Prim.Native.Nat.{ℕ, _+_, _-_, _≤_, _<_, _^_}
+use Prim.Native.Nat.{ℕ, _+_, _-_, _≤_, _<_}
 use native.Mathlib.Omega.{arith}
 use mathlib.Core.Path.{_≡_, refl, sym, ap, subst, _∙_}
 use mathlib.Core.Logic.{⊎-elim}
 use mathlib.Core.Bool.{Bool, true, false, cond, not, _&&_}
 use lib.Dec.{ltb}
 use lib.ListN.{length}
-use borrow.Author.Tests.{lt-ltb, ltb-true, ltb-false}
+use borrow.Author.Tests.{ltb-true, ltb-false}
 use Rattle.varint.specs.Varint.{spelling}
 use Rattle.area.proofs.Laws.{lt-or-ge}
 use Rattle.varint.proofs.Spelling.{size1, size2, size3, size4, size5}
@@ -18,12 +18,13 @@ use Rattle.format.specs.declared.Column.the-variants.{Of, Unknown}
 use Rattle.format.specs.Blocks.{columnOf}
 use Rattle.build.specs.declared.Builder.{Builder}
 use Rattle.build.specs.declared.Room.{Room}
+use Rattle.build.specs.declared.Appended.{Appended}
 use Rattle.build.specs.declared.Created.{Created}
 use Rattle.build.specs.declared.Created.the-variants.{New, Refused}
 use Rattle.build.specs.Building.{empty, createdIn, created, growth, grown}
-use Rattle.build.specs.Needs.{coded, flagged, keyed, storedBy, innerBytes, runBytes, finishedBytes, countsPast, pastLimits, recordWrong, short}
-use Rattle.build.specs.Coding.{answer, answerBy}
-use Rattle.build.proofs.Recorded.{apart, neither, or-last, inner-least, run-some, Right, right, cond-then, cond-else}
+use Rattle.build.specs.Needs.{coded, keyed, innerBytes, finishedBytes, countsPast, pastLimits, short}
+use Rattle.build.specs.Coding.{rowsBy, runsBy, withEntries, answer, answerBy}
+use Rattle.build.proofs.Recorded.{apart, neither, limit-past, inner-least, run-some, cond-then, cond-else}
 
 -- ---- creation
 module _ (kind encoding width target : ℕ) {c : Column} (p : c ≡ columnOf kind encoding width) where
@@ -34,30 +35,6 @@ module _ (kind encoding width target : ℕ) {c : Column} (p : c ≡ columnOf kin
   pub new : {k : Kind} {e : Encoding} → c ≡ Of k e → New (empty kind encoding width target) ≡ created kind encoding width target
   unfolding created createdIn
   new q = ap (λ (x : Column). createdIn x (empty kind encoding width target)) (sym (sym p ∙ q))
-
--- ---- a test under another
-module _ {A : Type 0} (p q : A) where
-  pub cond-both : {x a : Bool} → x ≡ a → x ≡ true → (b : Bool) → b ≡ true → p ≡ cond (a && b) p q
-  cond-both h t b u = subst (λ (y : Bool). p ≡ cond (y && b) p q) (sym t ∙ h) (subst (λ (y : Bool). p ≡ cond y p q) (sym u) refl)
-
-  pub cond-second : {x a : Bool} → x ≡ a → x ≡ true → (b : Bool) → b ≡ false → q ≡ cond (a && b) p q
-  cond-second h t b u = subst (λ (y : Bool). q ≡ cond (y && b) p q) (sym t ∙ h) (subst (λ (y : Bool). q ≡ cond y p q) (sym u) refl)
-
-  pub cond-first : {x a : Bool} → x ≡ a → x ≡ false → (b : Bool) → q ≡ cond (a && b) p q
-  cond-first h t b = subst (λ (y : Bool). q ≡ cond (y && b) p q) (sym t ∙ h) refl
-
-module _ {A : Type 0} {x a : Bool} (h : x ≡ a) (t : x ≡ true) (b : Bool) (p q o : A) where
-  pub cond-within : b ≡ true → p ≡ cond a (cond b p q) o
-  cond-within u = subst (λ (y : Bool). p ≡ cond y (cond b p q) o) (sym t ∙ h) (subst (λ (y : Bool). p ≡ cond y p q) (sym u) refl)
-
-  pub cond-without : b ≡ false → q ≡ cond a (cond b p q) o
-  cond-without u = subst (λ (y : Bool). q ≡ cond y (cond b p q) o) (sym t ∙ h) (subst (λ (y : Bool). q ≡ cond y p q) (sym u) refl)
-
-pub not-so : (b : Bool) → b ≡ true → not b ≡ false
-not-so b h = ap not h
-
-pub not-not : (b : Bool) → b ≡ false → not b ≡ true
-not-not b h = ap not h
 
 -- ---- the varint of the last count
 -- the next number's is no shorter, and none is longer than five bytes
@@ -82,23 +59,11 @@ unfolding growth
 grows v {a} {b} h p q = let l = longer v h in (omega (arith, p, q), cc, omega (arith, p, q))
 
 -- ---- the fields
-module _ {x a : Bool} (h : x ≡ a) (t : x ≡ true) (b : Bool) where
-  pub null-not : (o : ℕ) → b ≡ true → 0 ≡ cond a (1 - cond b 1 0) o
-  null-not o u = subst (λ (y : Bool). 0 ≡ cond y (1 - cond b 1 0) o) (sym t ∙ h) (subst (λ (y : Bool). 0 ≡ 1 - cond y 1 0) (sym u) refl)
+pub null-not : (b : Bool) → b ≡ true → 0 ≡ 1 - cond b 1 0
+null-not b u = subst (λ (y : Bool). 0 ≡ 1 - cond y 1 0) (sym u) refl
 
-  pub null-so : (o : ℕ) → b ≡ false → 1 ≡ cond a (1 - cond b 1 0) o
-  null-so o u = subst (λ (y : Bool). 1 ≡ cond y (1 - cond b 1 0) o) (sym t ∙ h) (subst (λ (y : Bool). 1 ≡ 1 - cond y 1 0) (sym u) refl)
-
-  pub counts-joined : (n : ℕ) → b ≡ true → (last : ℕ) {g : ℕ} → g ≡ growth last → n + g ≡ cond a (n + cond b (growth last) 1) n
-  counts-joined n u last {g} q =
-      ap (λ (m : ℕ). n + m) q
-      ∙ subst (λ (y : Bool). n + growth last ≡ cond y (n + cond b (growth last) 1) n) (sym t ∙ h)
-      (subst (λ (y : Bool). n + growth last ≡ n + cond y (growth last) 1) (sym u) refl)
-
-  pub counts-begun : (n : ℕ) → b ≡ false → (last : ℕ) → n + 1 ≡ cond a (n + cond b (growth last) 1) n
-  counts-begun n u last =
-      subst (λ (y : Bool). n + 1 ≡ cond y (n + cond b (growth last) 1) n) (sym t ∙ h)
-      (subst (λ (y : Bool). n + 1 ≡ n + cond y (growth last) 1) (sym u) refl)
+pub null-so : (b : Bool) → b ≡ false → 1 ≡ 1 - cond b 1 0
+null-so b u = subst (λ (y : Bool). 1 ≡ 1 - cond y 1 0) (sym u) refl
 
 abbrev with-row : Builder → ℕ → ℕ → ℕ → ℕ → ℕ → ℕ → Builder
 with-row r runs entries len last isNull counts = record {
@@ -115,14 +80,50 @@ with-row r runs entries len last isNull counts = record {
   counts = counts;
 }
 
-pub grown-as :
-    (e : Encoding) (r : Builder) (present : Bool) (len : ℕ) (stored joins : Bool)
-    → {a b c d f g : ℕ} → a ≡ cond (coded e && not joins) (r .runs + 1) (r .runs) → b ≡ cond (keyed e && stored) (r .entries + 1) (r .entries)
-    → c ≡ cond stored (r .bytes + len) (r .bytes) → d ≡ cond (coded e) (cond joins (r .last + 1) 1) (r .last)
-    → f ≡ cond (coded e) (1 - cond present 1 0) (r .null) → g ≡ cond (coded e) (r .counts + cond joins (growth (r .last)) 1) (r .counts)
-    → with-row r a b c d f g ≡ grown e r (cond present 1 0) len stored joins
-unfolding grown
-grown-as e r present len stored joins p q s t u v = rw (p, q, s, t, u, v) refl
+pub grown-row : (r : Builder) (len : ℕ) → with-row r (r .runs) (r .entries) (r .bytes + len) (r .last) (r .null) (r .counts) ≡ grown Plain r 0 len true false
+unfolding grown coded keyed
+grown-row r len = refl
+
+-- a row's flag is in no count
+pub row-same : (f : Bool) (r : Builder) (bit len : ℕ) → grown Plain r 0 len true false ≡ grown (rowsBy f) r bit len true false
+unfolding grown coded keyed
+row-same true r bit len = refl
+row-same false r bit len = refl
+
+pub row-answer :
+    (k : Kind) (f : Bool) (r : Builder) (m : Room) (bit len : ℕ) {n : Appended} → n ≡ answerBy k (rowsBy f) r m (grown (rowsBy f) r 0 len true false)
+    → n ≡ answerBy k (rowsBy f) r m (grown (rowsBy f) r bit len true false)
+row-answer k f r m bit len h = h ∙ ap (answerBy k (rowsBy f) r m) (sym (row-same f r 0 len) ∙ row-same f r bit len)
+
+module _ (r : Builder) (n : ℕ) (present : Bool) (len : ℕ) (stored joins : Bool) {x y : ℕ} (p : x ≡ cond stored (r .bytes + len) (r .bytes)) (q : y ≡ 1 - cond present 1 0) where
+  pub run-joined : joins ≡ true → {g : ℕ} → g ≡ growth (r .last) → with-row r (r .runs) n x (r .last + 1) y (r .counts + g) ≡ withEntries (grown RunLength r (cond present 1 0) len stored joins) n
+  unfolding withEntries grown coded keyed
+  run-joined t {g} s = go joins t
+    where
+      go : (joins : Bool) → joins ≡ true → with-row r (r .runs) n x (r .last + 1) y (r .counts + g) ≡ withEntries (grown RunLength r (cond present 1 0) len stored joins) n
+      go true t = rw (p, q, s) refl
+      go false t = apart (sym t)
+
+  pub run-begun : joins ≡ false → with-row r (r .runs + 1) n x 1 y (r .counts + 1) ≡ withEntries (grown RunLength r (cond present 1 0) len stored joins) n
+  unfolding withEntries grown coded keyed
+  run-begun t = go joins t
+    where
+      go : (joins : Bool) → joins ≡ false → with-row r (r .runs + 1) n x 1 y (r .counts + 1) ≡ withEntries (grown RunLength r (cond present 1 0) len stored joins) n
+      go true t = apart t
+      go false t = rw (p, q) refl
+
+module _ (r : Builder) (bit len : ℕ) (stored joins : Bool) {b : Builder} {n : ℕ} (h : b ≡ withEntries (grown RunLength r bit len stored joins) n) where
+  pub run-same : (f : Bool) → n ≡ r .entries → b ≡ grown (runsBy f) r bit len stored joins
+  unfolding withEntries grown coded keyed
+  run-same f q = h ∙ ap (withEntries (grown RunLength r bit len stored joins)) q ∙ go f
+    where
+      go : (f : Bool) → withEntries (grown RunLength r bit len stored joins) (r .entries) ≡ grown (runsBy f) r bit len stored joins
+      go true = refl
+      go false = refl
+
+  pub key-same : n ≡ cond stored (r .entries + 1) (r .entries) → b ≡ grown Dictionary r bit len stored joins
+  unfolding withEntries grown coded keyed
+  key-same q = h ∙ ap (withEntries (grown RunLength r bit len stored joins)) q
 
 -- ---- the record with the row counted in
 growth-few : (v : ℕ) → v < 4294967295 → growth v ≤ 5
@@ -148,11 +149,6 @@ module _ (e : Encoding) (r : Builder) (bit len : ℕ) where
       let a = h t in
       let z : r .counts + 1 ≡ cond (coded e) (r .counts + 1) (r .counts) = cond-then _ _ refl t in
       omega arith
-
--- an item longer than any block passes the limit
-limit-past : (k : Kind) (e : Encoding) (r : Builder) → 16777216 < finishedBytes k e r → pastLimits k e r ≡ true
-unfolding pastLimits
-limit-past k e r h = sym (or-last (countsPast e r) (lt-ltb 16777216 (finishedBytes k e r) h))
 
 -- a row that is stored: the finished block is no shorter than the items
 pub finished-holds :

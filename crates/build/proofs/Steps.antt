@@ -1,18 +1,16 @@
 -- What an append finds, on each way through the code of finding. Assumes nothing.
-use Prim.Native.Nat.{ℕ, zero, suc, _+_, _-_, _≤_, _<_, _^_}
+use Prim.Native.Nat.{ℕ, zero, suc, _+_, _-_, _≤_, _<_}
 use native.Mathlib.Omega.{arith}
 use mathlib.Core.Path.{_≡_, refl, sym, ap, subst, _∙_}
 use mathlib.Core.Bool.{Bool, true, false, cond, not, _&&_}
-use mathlib.Core.List.{List, [], _∷_}
+use mathlib.Core.List.{List, []}
 use lib.Dec.{ltb, eqb}
 use lib.IntN.{ℤ, pos, negsuc, _+ℤ_}
 use lib.ListN.{length, getD}
 use mir.Syntax.{Width, w32}
 use mir.Val.{ofZ, toZ, SFits}
 use mir.Facts.{toZ-ofZ, toZ-pos}
-use borrow.Author.Tests.{lt-ltb, le-ltb, ltb-true, eq-eqb, ne-eqb, eqb-true}
-use types.Run.{OneOf, miss}
-use denote.Enum.Declared.{tagOf}
+use borrow.Author.Tests.{lt-ltb, le-ltb, ltb-true, eq-eqb, ne-eqb}
 use Rattle.encode.specs.declared.Kind.{Kind}
 use Rattle.encode.specs.declared.Kind.the-variants.{Fixed, Char, Blob}
 use Rattle.plain.specs.Rows.{Row, null, int, bytes, valueOf, rowOf, sameInt, same}
@@ -20,7 +18,6 @@ use Rattle.plain.specs.Plain.{places}
 use Rattle.dict.specs.Dictionary.{nullKey, entryKey}
 use Rattle.format.specs.declared.Encoding.{Encoding}
 use Rattle.format.specs.declared.Encoding.the-variants.{Plain, Nullable, RunLength, RunLengthNullable, Dictionary}
-use Rattle.format.proofs.Encoding.{the-type}
 use Rattle.held.specs.declared.Looked.{Looked}
 use Rattle.held.specs.declared.Looked.the-variants.{Entry, Bad}
 use Rattle.build.specs.declared.Builder.{Builder}
@@ -31,8 +28,8 @@ use Rattle.build.specs.Needs.{keyed, storedBy}
 use Rattle.build.specs.Building.{runOpen, rowBefore, joinsRun, runStep, joinsKey, entryStep, keyStep, stepOf}
 use Rattle.held.specs.Asking.{FieldsThere, BytesThere}
 use Rattle.held.proofs.There.{wrong-apart}
-use Rattle.build.specs.Coding.{Ready}
-use Rattle.build.proofs.Recorded.{apart, and-then, and-not, stored-runs, stored-entries, keyed-so}
+use Rattle.build.specs.Coding.{rowsBy, runsBy, Ready}
+use Rattle.build.proofs.Recorded.{apart, and-then, and-not, runs-stored, stored-entries, keyed-so}
 
 -- ---- the last run
 pub some : (n : ℕ) → (n ≡ 0 → ⊥) → 0 < n
@@ -235,8 +232,8 @@ module _ (k : Kind) (e : Encoding) (r : Builder) (h : Held) (keys : List ℤ) (y
   there : {n : ℕ} → n ≡ storedBy e r → (n ≤ 1048576) × FieldsThere k n h × BytesThere k n (r .bytes) h
   there q = subst (λ (n : ℕ). (n ≤ 1048576) × FieldsThere k n h × BytesThere k n (r .bytes) h) (sym q) (y .few, y .fields, y .bytes)
 
-  pub runs-ready : OneOf (2 ∷ 3 ∷ []) (tagOf the-type e) → (r .runs ≤ 1048576) × FieldsThere k (r .runs) h × BytesThere k (r .runs) (r .bytes) h
-  runs-ready q = there (stored-runs e r q)
+  pub runs-ready : (f : Bool) → e ≡ runsBy f → (r .runs ≤ 1048576) × FieldsThere k (r .runs) h × BytesThere k (r .runs) (r .bytes) h
+  runs-ready f q = there (runs-stored f r ∙ ap (λ (g : Encoding). storedBy g r) (sym q))
 
   pub keys-ready :
       e ≡ Dictionary → (r .entries ≤ 65536) × (r .runs ≤ length keys) × FieldsThere k (r .entries) h × BytesThere k (r .entries) (r .bytes) h
@@ -245,32 +242,20 @@ module _ (k : Kind) (e : Encoding) (r : Builder) (h : Held) (keys : List ℤ) (y
       let d = sym (keyed-so e q) in
       (y .entries d, y .named d, t .1, t .2)
 
-module _ (k : Kind) (e : Encoding) (r : Builder) (h : Held) (keys : List ℤ) (row : Row) where
-  pub step-each : OneOf (0 ∷ 1 ∷ []) (tagOf the-type e) → Adds true false (pos 0) ≡ stepOf k e r h keys row
+module _ (k : Kind) (r : Builder) (h : Held) (keys : List ℤ) (row : Row) where
+  pub step-rows : (f : Bool) → Adds true false (pos 0) ≡ stepOf k (rowsBy f) r h keys row
   unfolding stepOf
-  step-each q = go e q
-    where
-      go : (e : Encoding) → OneOf (0 ∷ 1 ∷ []) (tagOf the-type e) → Adds true false (pos 0) ≡ stepOf k e r h keys row
-      go Plain q = refl
-      go Nullable q = refl
-      go RunLength q = absurd (miss (0 ∷ 1 ∷ []) 2 tt q)
-      go RunLengthNullable q = absurd (miss (0 ∷ 1 ∷ []) 3 tt q)
-      go Dictionary q = absurd (miss (0 ∷ 1 ∷ []) 4 tt q)
+  step-rows true = refl
+  step-rows false = refl
 
-  pub step-runs : OneOf (2 ∷ 3 ∷ []) (tagOf the-type e) → {s : Step} → s ≡ runStep k r h row → s ≡ stepOf k e r h keys row
+  pub step-runs : (f : Bool) {s : Step} → s ≡ runStep k r h row → s ≡ stepOf k (runsBy f) r h keys row
   unfolding stepOf
-  step-runs q p = p ∙ go e q
-    where
-      go : (e : Encoding) → OneOf (2 ∷ 3 ∷ []) (tagOf the-type e) → runStep k r h row ≡ stepOf k e r h keys row
-      go Plain q = absurd (miss (2 ∷ 3 ∷ []) 0 tt q)
-      go Nullable q = absurd (miss (2 ∷ 3 ∷ []) 1 tt q)
-      go RunLength q = refl
-      go RunLengthNullable q = refl
-      go Dictionary q = absurd (miss (2 ∷ 3 ∷ []) 4 tt q)
+  step-runs true p = p
+  step-runs false p = p
 
-  pub step-keys : e ≡ Dictionary → {s : Step} → s ≡ keyStep k r h keys row → s ≡ stepOf k e r h keys row
+  pub step-keys : {s : Step} → s ≡ keyStep k r h keys row → s ≡ stepOf k Dictionary r h keys row
   unfolding stepOf
-  step-keys q p = p ∙ ap (λ (f : Encoding). stepOf k f r h keys row) (sym q)
+  step-keys p = p
 
 -- ---- what a step that is found says
 step-open : (r : Builder) (b : Bool) → (runOpen r && b) ≡ true → (0 < r .runs) × (r .last < 4294967295)

@@ -2,8 +2,9 @@
 -- Assumes nothing.
 use Prim.Native.Nat.{ℕ, _+_, _/_, _^_, _≤_, _<_}
 use mathlib.Core.Path.{_≡_}
-use mathlib.Core.Bool.{Bool, true, false, cond, not, _&&_}
+use mathlib.Core.Bool.{Bool, true, cond, not, _&&_, _||_}
 use mathlib.Core.List.{List}
+use lib.Dec.{ltb}
 use lib.IntN.{ℤ}
 use lib.ListN.{length}
 use Rattle.encode.specs.declared.Kind.{Kind}
@@ -12,12 +13,34 @@ use Rattle.plain.specs.Rows.{Row, fits}
 use Rattle.plain.specs.Plain.{itemOf}
 use Rattle.nullable.specs.Nullable.{bitmapLength}
 use Rattle.format.specs.declared.Encoding.{Encoding}
+use Rattle.format.specs.declared.Encoding.the-variants.{Plain, Nullable, RunLength, RunLengthNullable}
 use Rattle.build.specs.declared.Builder.{Builder}
 use Rattle.build.specs.declared.Room.{Room}
 use Rattle.build.specs.declared.Appended.{Appended}
 use Rattle.held.specs.Held.{Held}
 use Rattle.held.specs.Asking.{FieldsThere, BytesThere}
-use Rattle.build.specs.Needs.{Areas, coded, flagged, keyed, storedBy, pastLimits, short}
+use Rattle.build.specs.Building.{Append}
+use Rattle.build.specs.Needs.{Areas, coded, flagged, keyed, storedBy, plainBytes, pastLimits, bytesWrong, fieldsShort, short}
+
+-- ---- the encodings of rows, and of runs: with a flag beside each stored item, or none
+abbrev pub rowsBy : Bool → Encoding
+rowsBy nullable = cond nullable Nullable Plain
+
+abbrev pub runsBy : Bool → Encoding
+runsBy nullable = cond nullable RunLengthNullable RunLength
+
+-- ---- the tests, on the few numbers that they need
+-- n stored items are too many, their bytes not their need, or more than any block has
+unfoldable pub itemsWrong : Kind → ℕ → ℕ → Bool
+itemsWrong k n len = ltb 1048576 n || bytesWrong k n len || ltb 16777216 len
+
+-- an inner block of n items, of so many item bytes: plain or nullable
+unfoldable pub innerBy : Kind → Bool → ℕ → ℕ → ℕ
+innerBy k nullable n len = plainBytes k n len + cond nullable (bitmapLength n + 4) 0
+
+-- the areas of its items, their fields and flags are below its need
+unfoldable pub innerShort : Kind → Bool → ℕ → ℕ → Room → Bool
+innerShort k nullable n len m = ltb (m .items) len || fieldsShort k n m || nullable && ltb (m .flags) (bitmapLength n)
 
 -- the stored items, their fields and the keys are there
 pub record Ready (k : Kind) (e : Encoding) (r : Builder) (h : Held) (keys : List ℤ) : Type 0 where
@@ -34,21 +57,39 @@ answer e r = record { number = e; builder = r }
 unfoldable pub answerBy : Kind → Encoding → Builder → Room → Builder → Appended
 answerBy k e r m next = cond (pastLimits k e next) (answer 3 r) (cond (short k e next m) (answer 4 r) (answer 0 next))
 
--- the slots that a stored row is written into are there
-pub record Stores (k : Kind) (e : Encoding) (r : Builder) (row : Row) (len : ℕ) (is es fs ls : List ℕ) : Type 0 where
+-- the record with another number of entries
+unfoldable pub withEntries : Builder → ℕ → Builder
+withEntries r n = record {
+  kind = r .kind;
+  encoding = r .encoding;
+  width = r .width;
+  target = r .target;
+  rows = r .rows;
+  runs = r .runs;
+  entries = n;
+  bytes = r .bytes;
+  last = r .last;
+  null = r .null;
+  counts = r .counts;
+}
+
+-- the slots that a row is written into, as stored item i at a place, are there
+pub record Stores (k : Kind) (nullable : Bool) (i at : ℕ) (row : Row) (len : ℕ) (is es fs ls : List ℕ) : Type 0 where
   pub taken : fits k row ≡ true
   pub long : len ≡ length (itemOf k row)
-  pub items : r .bytes + len ≤ length is
-  pub small : r .bytes + len < 2 ^ 32
-  pub ends : k ≡ Blob → storedBy e r < length es
-  pub lens : (w : ℕ) → k ≡ Char w → storedBy e r < length ls
-  pub flags : flagged e ≡ true → storedBy e r / 8 < length fs
+  pub items : at + len ≤ length is
+  pub small : at + len < 2 ^ 32
+  pub ends : k ≡ Blob → i < length es
+  pub lens : (w : ℕ) → k ≡ Char w → i < length ls
+  pub flags : nullable ≡ true → i / 8 < length fs
 
--- the slots of its run are there
-pub record Counts (e : Encoding) (r : Builder) (joins : Bool) (cs : List ℕ) (ks : List ℤ) : Type 0 where
-  pub joined : joins ≡ true → (0 < r .runs) × (r .runs ≤ length cs) × (r .last < 4294967295)
-  pub begun : joins ≡ false → r .runs < length cs
-  pub named : (keyed e && not joins) ≡ true → r .runs < length ks
+-- what an append says of its answer and of the areas that it leaves, from the whole
+abbrev pub Given : Append → Appended → List ℕ → List ℕ → List ℕ → List ℕ → List ℤ → List ℕ → Type 0
+Given x n is es fs cs ks ls =
+    (n ≡ x .answer)
+    × ((is ≡ x .areas .items)
+    × ((es ≡ x .areas .ends)
+    × ((fs ≡ x .areas .flags) × ((cs ≡ x .areas .counts) × ((ks ≡ x .areas .keys) × (ls ≡ x .areas .lens))))))
 
 -- ---- finish
 -- the record with another byte length of the counts

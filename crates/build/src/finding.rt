@@ -2,7 +2,6 @@
 use crate::Builder;
 use crate::Step;
 use encode::Kind;
-use format::Encoding;
 use held::Looked;
 ghost use mathlib.Core.Path.{_≡_};
 ghost use Prim.Native.Nat.{ℕ, _-_, _≤_, _<_};
@@ -12,8 +11,7 @@ ghost use Rattle.dict.specs.Dictionary.{entryKey};
 ghost use Rattle.held.specs.declared.Looked.the-variants.{Entry};
 ghost use Rattle.held.specs.Held.{held};
 ghost use Rattle.held.specs.Asking.{FieldsThere, BytesThere, ItemThere};
-ghost use Rattle.build.specs.Coding.{Ready};
-ghost use Rattle.build.specs.Building.{runOpen, joinsRun, runStep, joinsKey, entryStep, keyStep, stepOf};
+ghost use Rattle.build.specs.Building.{runOpen, joinsRun, runStep, joinsKey, entryStep, keyStep};
 
 // ---- encodings 2 and 3: the last item
 
@@ -53,7 +51,7 @@ fn joins_run(
     false
 }
 
-fn run_step(
+pub fn run_step(
     b: Builder,
     kind: Kind,
     items: &[u8],
@@ -121,7 +119,7 @@ fn entry_step(b: Builder, keys: &[i32], looked: Looked) -> Step
     }
 }
 
-fn key_step(
+pub fn key_step(
     b: Builder,
     kind: Kind,
     items: &[u8],
@@ -145,33 +143,4 @@ fn key_step(
     }
     let looked = held::look_up(kind, b.entries, b.bytes, items, ends, lens, value, item);
     entry_step(b, keys, looked)
-}
-
-// ---- every encoding
-pub fn find_step(
-    b: Builder,
-    kind: Kind,
-    e: Encoding,
-    items: &[u8],
-    ends: &[u32],
-    lens: &[u8],
-    keys: &[i32],
-    present: bool,
-    value: i64,
-    item: &[u8],
-) -> Step
-    requires { ⌜ Ready kind e b (held (now items) (now ends) (now lens)) (now keys) ⌝ }
-    ensures { λ r. ⌜ r ≡ stepOf kind e b (held (now (items .entry)) (now (ends .entry)) (now (lens .entry))) (now (keys .entry)) (rowOf kind present value (now (item .entry))) ⌝ }
-{
-    match e {
-        Encoding::Plain | Encoding::Nullable => Step::Row {
-            item: true,
-            joins: false,
-            key: 0,
-        },
-        Encoding::RunLength | Encoding::RunLengthNullable => {
-            run_step(b, kind, items, ends, lens, present, value, item)
-        }
-        Encoding::Dictionary => { key_step(b, kind, items, ends, lens, keys, present, value, item) }
-    }
 }

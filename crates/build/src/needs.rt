@@ -4,11 +4,11 @@ use crate::Room;
 use encode::Kind;
 use format::Encoding;
 ghost use mathlib.Core.Path.{_≡_};
-ghost use mathlib.Core.Bool.{true, false, cond, _&&_};
-ghost use Prim.Native.Nat.{_+_, _≤_};
-ghost use lib.Dec.{ltb};
-ghost use Rattle.nullable.specs.Nullable.{bitmapLength};
-ghost use Rattle.build.specs.Needs.{coded, flagged, keyed, storedBy, plainBytes, innerBytes, runBytes, finishedBytes, countsPast, pastLimits, bytesWrong, recordWrong, fieldsShort, runsShort, short as isShort};
+ghost use mathlib.Core.Bool.{true, false};
+ghost use Prim.Native.Nat.{_≤_};
+ghost use Rattle.format.specs.declared.Encoding.the-variants.{Dictionary};
+ghost use Rattle.build.specs.Needs.{coded, flagged, keyed, storedBy, plainBytes, runBytes, finishedBytes, countsPast, pastLimits, bytesWrong, recordWrong, fieldsShort, short as isShort};
+ghost use Rattle.build.specs.Coding.{rowsBy, runsBy, itemsWrong, innerBy, innerShort};
 
 // Whether rows are coded by runs; whether a flag stands beside each stored item; whether a run has a key.
 pub fn is_coded(e: Encoding) -> bool
@@ -61,57 +61,16 @@ pub fn plain_bytes(kind: Kind, n: usize, len: usize) -> usize
     }
 }
 
-// The number that the limit of stored items or runs holds.
-fn runs_or_rows(b: Builder, e: Encoding) -> usize
-    ensures { λ r. ⌜ r ≡ cond (coded e) (b .runs) (b .rows) ⌝ }
+// An inner block of `n` items of `len` bytes in all: plain, or nullable with its bitmap and its trailer.
+fn inner_bytes(kind: Kind, nullable: bool, n: usize, len: usize) -> usize
+    requires { ⌜ (n ≤ 1048576) × (len ≤ 33554432) ⌝ }
+    ensures { λ r. ⌜ (r ≡ innerBy kind nullable n len) × (r ≤ 37879812) ⌝ }
 {
-    if is_coded(e) {
-        return b.runs;
+    let bare = plain_bytes(kind, n, len);
+    if nullable {
+        return bare + (nullable::bitmap_len(n) + 4);
     }
-    b.rows
-}
-
-// Whether there are too many entries.
-fn many_entries(b: Builder, e: Encoding) -> bool
-    ensures { λ r. ⌜ r ≡ (keyed e && ltb 65536 (b .entries)) ⌝ }
-{
-    if is_keyed(e) {
-        return 65536 < b.entries;
-    }
-    false
-}
-
-// Whether the rows, the stored items or runs, or the entries pass a limit.
-pub fn counts_past(b: Builder, e: Encoding) -> bool
-    ensures { λ r. ⌜ r ≡ countsPast e b ⌝ }
-{
-    if 281474976710655 < b.rows {
-        return true;
-    }
-    if 1048576 < runs_or_rows(b, e) {
-        return true;
-    }
-    many_entries(b, e)
-}
-
-// What a bitmap of `n` bits and its trailer add to a block.
-fn flag_bytes(e: Encoding, n: usize) -> usize
-    requires { ⌜ n ≤ 1048576 ⌝ }
-    ensures { λ r. ⌜ (r ≡ cond (flagged e) (bitmapLength n + 4) 0) × (r ≤ 131076) ⌝ }
-{
-    if is_flagged(e) {
-        return nullable::bitmap_len(n) + 4;
-    }
-    0
-}
-
-// A plain block of the stored items, or a nullable one.
-fn inner_bytes(b: Builder, kind: Kind, e: Encoding) -> usize
-    requires { ⌜ (storedBy e b ≤ 1048576) × (b .bytes ≤ 33554432) ⌝ }
-    ensures { λ r. ⌜ (r ≡ innerBytes kind e b) × (r ≤ 37879812) ⌝ }
-{
-    let n = stored(b, e);
-    plain_bytes(kind, n, b.bytes) + flag_bytes(e, n)
+    bare
 }
 
 // A block of the runs over `inner` bytes: no runs, no bytes.
@@ -125,28 +84,79 @@ fn run_bytes(b: Builder, inner: usize) -> usize
     8 + b.counts + inner
 }
 
-// The finished block's length by the record.
+// The finished block's length by the record: of rows, of runs, of keys; of each encoding.
+fn rows_bytes(b: Builder, kind: Kind, nullable: bool) -> usize
+    requires { ⌜ (b .rows ≤ 1048576) × (b .bytes ≤ 33554432) ⌝ }
+    ensures { λ r. ⌜ r ≡ finishedBytes kind (rowsBy nullable) b ⌝ }
+{
+    inner_bytes(kind, nullable, b.rows, b.bytes)
+}
+
+fn runs_bytes(b: Builder, kind: Kind, nullable: bool) -> usize
+    requires { ⌜ (b .runs ≤ 1048576) × (b .bytes ≤ 33554432) × (b .counts ≤ 33554432) ⌝ }
+    ensures { λ r. ⌜ r ≡ finishedBytes kind (runsBy nullable) b ⌝ }
+{
+    run_bytes(b, inner_bytes(kind, nullable, b.runs, b.bytes))
+}
+
+fn keys_bytes(b: Builder, kind: Kind) -> usize
+    requires { ⌜ (b .runs ≤ 1048576) × (b .entries ≤ 65536) × (b .bytes ≤ 33554432) × (b .counts ≤ 33554432) ⌝ }
+    ensures { λ r. ⌜ r ≡ finishedBytes kind Dictionary b ⌝ }
+{
+    12 + run_bytes(b, 4 * b.runs) + plain_bytes(kind, b.entries, b.bytes)
+}
+
 pub fn block_bytes(b: Builder, kind: Kind, e: Encoding) -> usize
     requires { ⌜ (countsPast e b ≡ false) × (b .bytes ≤ 33554432) × (coded e ≡ true → b .counts ≤ 33554432) ⌝ }
     ensures { λ r. ⌜ r ≡ finishedBytes kind e b ⌝ }
 {
-    let inner = inner_bytes(b, kind, e);
     match e {
-        Encoding::Plain | Encoding::Nullable => inner,
-        Encoding::RunLength | Encoding::RunLengthNullable => run_bytes(b, inner),
-        Encoding::Dictionary => 12 + run_bytes(b, 4 * b.runs) + inner,
+        Encoding::Plain => rows_bytes(b, kind, false),
+        Encoding::Nullable => rows_bytes(b, kind, true),
+        Encoding::RunLength => runs_bytes(b, kind, false),
+        Encoding::RunLengthNullable => runs_bytes(b, kind, true),
+        Encoding::Dictionary => keys_bytes(b, kind),
     }
 }
 
-// Whether a limit is passed.
-pub fn past_limits(b: Builder, kind: Kind, e: Encoding) -> bool
-    requires { ⌜ (b .bytes ≤ 33554432) × (coded e ≡ true → b .counts ≤ 33554432) ⌝ }
-    ensures { λ r. ⌜ r ≡ pastLimits kind e b ⌝ }
+// Whether a limit is passed: by rows, by runs, by keys.
+pub fn rows_past(b: Builder, kind: Kind, nullable: bool) -> bool
+    requires { ⌜ b .bytes ≤ 33554432 ⌝ }
+    ensures { λ r. ⌜ r ≡ pastLimits kind (rowsBy nullable) b ⌝ }
 {
-    if counts_past(b, e) {
+    if 1048576 < b.rows {
         return true;
     }
-    16777216 < block_bytes(b, kind, e)
+    16777216 < rows_bytes(b, kind, nullable)
+}
+
+pub fn runs_past(b: Builder, kind: Kind, nullable: bool) -> bool
+    requires { ⌜ (b .bytes ≤ 33554432) × (b .counts ≤ 33554432) ⌝ }
+    ensures { λ r. ⌜ r ≡ pastLimits kind (runsBy nullable) b ⌝ }
+{
+    if 281474976710655 < b.rows {
+        return true;
+    }
+    if 1048576 < b.runs {
+        return true;
+    }
+    16777216 < runs_bytes(b, kind, nullable)
+}
+
+pub fn keys_past(b: Builder, kind: Kind) -> bool
+    requires { ⌜ (b .bytes ≤ 33554432) × (b .counts ≤ 33554432) ⌝ }
+    ensures { λ r. ⌜ r ≡ pastLimits kind Dictionary b ⌝ }
+{
+    if 281474976710655 < b.rows {
+        return true;
+    }
+    if 1048576 < b.runs {
+        return true;
+    }
+    if 65536 < b.entries {
+        return true;
+    }
+    16777216 < keys_bytes(b, kind)
 }
 
 // Whether the item bytes are not the need of `n` items. A blob's can be any, but none of no items.
@@ -166,33 +176,64 @@ pub fn bytes_wrong(kind: Kind, n: usize, len: usize) -> bool
     }
 }
 
-// Whether the counts' byte length passes the limit that it is held to.
-fn counts_wrong(b: Builder, e: Encoding) -> bool
-    ensures { λ r. ⌜ r ≡ (coded e && ltb 16777216 (b .counts)) ⌝ }
+// Whether `n` stored items are too many, their bytes not their need, or more than any block has.
+fn items_wrong(kind: Kind, n: usize, len: usize) -> bool
+    ensures { λ r. ⌜ r ≡ itemsWrong kind n len ⌝ }
 {
-    if is_coded(e) {
-        return 16777216 < b.counts;
+    if 1048576 < n {
+        return true;
     }
-    false
+    if bytes_wrong(kind, n, len) {
+        return true;
+    }
+    16777216 < len
 }
 
-// Whether the record is wrong by itself. Each number is held to a limit before it goes into a sum or a product.
+// Whether the record is wrong by itself: of rows, of runs, of keys; of each encoding. Each number is held to a limit before it
+// goes into a sum or a product.
+pub fn rows_wrong(b: Builder, kind: Kind, nullable: bool) -> bool
+    ensures { λ r. ⌜ r ≡ recordWrong kind (rowsBy nullable) b ⌝ }
+{
+    if items_wrong(kind, b.rows, b.bytes) {
+        return true;
+    }
+    rows_past(b, kind, nullable)
+}
+
+pub fn runs_wrong(b: Builder, kind: Kind, nullable: bool) -> bool
+    ensures { λ r. ⌜ r ≡ recordWrong kind (runsBy nullable) b ⌝ }
+{
+    if 16777216 < b.counts {
+        return true;
+    }
+    if items_wrong(kind, b.runs, b.bytes) {
+        return true;
+    }
+    runs_past(b, kind, nullable)
+}
+
+pub fn keys_wrong(b: Builder, kind: Kind) -> bool
+    ensures { λ r. ⌜ r ≡ recordWrong kind Dictionary b ⌝ }
+{
+    if 16777216 < b.counts {
+        return true;
+    }
+    if items_wrong(kind, b.entries, b.bytes) {
+        return true;
+    }
+    keys_past(b, kind)
+}
+
 pub fn is_wrong(b: Builder, kind: Kind, e: Encoding) -> bool
     ensures { λ r. ⌜ r ≡ recordWrong kind e b ⌝ }
 {
-    if counts_wrong(b, e) {
-        return true;
+    match e {
+        Encoding::Plain => rows_wrong(b, kind, false),
+        Encoding::Nullable => rows_wrong(b, kind, true),
+        Encoding::RunLength => runs_wrong(b, kind, false),
+        Encoding::RunLengthNullable => runs_wrong(b, kind, true),
+        Encoding::Dictionary => keys_wrong(b, kind),
     }
-    if counts_past(b, e) {
-        return true;
-    }
-    if bytes_wrong(kind, stored(b, e), b.bytes) {
-        return true;
-    }
-    if 16777216 < b.bytes {
-        return true;
-    }
-    16777216 < block_bytes(b, kind, e)
 }
 
 // Whether the ends or the lengths of `n` items don't fit.
@@ -206,59 +247,63 @@ fn fields_short(kind: Kind, n: usize, room: Room) -> bool
     }
 }
 
-// Whether the flags of `n` items don't fit.
-fn flags_short(e: Encoding, n: usize, room: Room) -> bool
+// Whether the items of an inner block, their fields or their flags don't fit.
+fn inner_short(kind: Kind, nullable: bool, n: usize, len: usize, room: Room) -> bool
     requires { ⌜ n ≤ 1048576 ⌝ }
-    ensures { λ r. ⌜ r ≡ (flagged e && ltb (room .flags) (bitmapLength n)) ⌝ }
+    ensures { λ r. ⌜ r ≡ innerShort kind nullable n len room ⌝ }
 {
-    if is_flagged(e) {
+    if room.items < len {
+        return true;
+    }
+    if fields_short(kind, n, room) {
+        return true;
+    }
+    if nullable {
         return room.flags < nullable::bitmap_len(n);
     }
     false
 }
 
-// Whether the counts of the runs don't fit; whether their keys don't.
-fn counts_short(b: Builder, e: Encoding, room: Room) -> bool
-    ensures { λ r. ⌜ r ≡ (coded e && ltb (room .counts) (b .runs)) ⌝ }
+// Whether a lent area is below the record's need: of rows, of runs, of keys; of each encoding.
+pub fn rows_short(b: Builder, kind: Kind, nullable: bool, room: Room) -> bool
+    requires { ⌜ b .rows ≤ 1048576 ⌝ }
+    ensures { λ r. ⌜ r ≡ isShort kind (rowsBy nullable) b room ⌝ }
 {
-    if is_coded(e) {
-        return room.counts < b.runs;
-    }
-    false
+    inner_short(kind, nullable, b.rows, b.bytes, room)
 }
 
-fn keys_short(b: Builder, e: Encoding, room: Room) -> bool
-    ensures { λ r. ⌜ r ≡ (keyed e && ltb (room .keys) (b .runs)) ⌝ }
+pub fn runs_short(b: Builder, kind: Kind, nullable: bool, room: Room) -> bool
+    requires { ⌜ b .runs ≤ 1048576 ⌝ }
+    ensures { λ r. ⌜ r ≡ isShort kind (runsBy nullable) b room ⌝ }
 {
-    if is_keyed(e) {
-        return room.keys < b.runs;
-    }
-    false
-}
-
-fn runs_short(b: Builder, e: Encoding, room: Room) -> bool
-    ensures { λ r. ⌜ r ≡ runsShort e b room ⌝ }
-{
-    if counts_short(b, e, room) {
+    if inner_short(kind, nullable, b.runs, b.bytes, room) {
         return true;
     }
-    keys_short(b, e, room)
+    room.counts < b.runs
 }
 
-// Whether a lent area is below the record's need.
+pub fn keys_short(b: Builder, kind: Kind, room: Room) -> bool
+    requires { ⌜ b .entries ≤ 1048576 ⌝ }
+    ensures { λ r. ⌜ r ≡ isShort kind Dictionary b room ⌝ }
+{
+    if inner_short(kind, false, b.entries, b.bytes, room) {
+        return true;
+    }
+    if room.counts < b.runs {
+        return true;
+    }
+    room.keys < b.runs
+}
+
 pub fn is_short(b: Builder, kind: Kind, e: Encoding, room: Room) -> bool
     requires { ⌜ countsPast e b ≡ false ⌝ }
     ensures { λ r. ⌜ r ≡ isShort kind e b room ⌝ }
 {
-    if room.items < b.bytes {
-        return true;
+    match e {
+        Encoding::Plain => rows_short(b, kind, false, room),
+        Encoding::Nullable => rows_short(b, kind, true, room),
+        Encoding::RunLength => runs_short(b, kind, false, room),
+        Encoding::RunLengthNullable => runs_short(b, kind, true, room),
+        Encoding::Dictionary => keys_short(b, kind, room),
     }
-    let n = stored(b, e);
-    if fields_short(kind, n, room) {
-        return true;
-    }
-    if flags_short(e, n, room) {
-        return true;
-    }
-    runs_short(b, e, room)
 }

@@ -6,13 +6,13 @@ use crate::Room;
 use crate::needs;
 use encode::Kind;
 use format::Column;
-use format::Encoding;
 ghost use mathlib.Core.Path.{_≡_};
 ghost use mathlib.Core.Bool.{true, false, cond, not, _&&_};
 ghost use Prim.Native.Nat.{_+_, _-_, _≤_, _<_};
 ghost use lib.Dec.{ltb};
-ghost use Rattle.build.specs.Needs.{coded, keyed, recordWrong};
-ghost use Rattle.build.specs.Coding.{answerBy};
+ghost use Rattle.format.specs.declared.Encoding.the-variants.{Plain, RunLength, Dictionary};
+ghost use Rattle.build.specs.Needs.{recordWrong};
+ghost use Rattle.build.specs.Coding.{rowsBy, runsBy, withEntries, answerBy};
 ghost use Rattle.build.specs.Building.{created, growth as growthOf, grown as grownBy};
 
 // A builder of a column, with nothing appended.
@@ -50,30 +50,66 @@ fn growth(last: usize) -> usize
     varint::size((last + 1) as u32) - varint::size(last as u32)
 }
 
-// ---- the fields that a row changes
+// ---- rows
 
-fn next_runs(b: Builder, e: Encoding, joins: bool) -> usize
-    requires { ⌜ (coded e ≡ true → b .runs ≤ 1048576) ⌝ }
-    ensures { λ r. ⌜ r ≡ cond (coded e && not joins) (b .runs + 1) (b .runs) ⌝ }
+// With a row that has an item of `len` bytes.
+fn grown_row(b: Builder, len: usize) -> Builder
+    requires { ⌜ (b .rows ≤ 1048576) × (b .bytes ≤ 16777216) × (len ≤ 16777216) ⌝ }
+    ensures { λ r. ⌜ r ≡ grownBy Plain b 0 len true false ⌝ }
 {
-    if needs::is_coded(e) {
-        if joins {
-            return b.runs;
-        }
-        return b.runs + 1;
+    Builder {
+        kind: b.kind,
+        encoding: b.encoding,
+        width: b.width,
+        target: b.target,
+        rows: b.rows + 1,
+        runs: b.runs,
+        entries: b.entries,
+        bytes: b.bytes + len,
+        last: b.last,
+        null: b.null,
+        counts: b.counts,
     }
-    b.runs
 }
 
-fn next_entries(b: Builder, e: Encoding, stored: bool) -> usize
-    requires { ⌜ (keyed e ≡ true → b .entries ≤ 65536) ⌝ }
-    ensures { λ r. ⌜ r ≡ cond (keyed e && stored) (b .entries + 1) (b .entries) ⌝ }
+// The record with the row counted in, or 3 or 4. An item longer than any block is refused before it goes into a sum.
+pub fn row_counted(b: Builder, kind: Kind, nullable: bool, room: Room, len: usize) -> Appended
+    requires { ⌜ recordWrong kind (rowsBy nullable) b ≡ false ⌝ }
+    ensures { λ r. ⌜ r ≡ answerBy kind (rowsBy nullable) b room (grownBy (rowsBy nullable) b 0 len true false) ⌝ }
 {
-    if needs::is_keyed(e) {
-        if stored {
-            return b.entries + 1;
-        }
-        return b.entries;
+    if 16777216 < len {
+        return Appended {
+            number: 3,
+            builder: b,
+        };
+    }
+    let next = grown_row(b, len);
+    if needs::rows_past(next, kind, nullable) {
+        return Appended {
+            number: 3,
+            builder: b,
+        };
+    }
+    if needs::rows_short(next, kind, nullable, room) {
+        return Appended {
+            number: 4,
+            builder: b,
+        };
+    }
+    Appended {
+        number: 0,
+        builder: next,
+    }
+}
+
+// ---- runs and keys: the fields that a row changes
+
+fn next_entries(b: Builder, stored: bool) -> usize
+    requires { ⌜ b .entries ≤ 65536 ⌝ }
+    ensures { λ r. ⌜ r ≡ cond stored (b .entries + 1) (b .entries) ⌝ }
+{
+    if stored {
+        return b.entries + 1;
     }
     b.entries
 }
@@ -88,61 +124,56 @@ fn next_bytes(b: Builder, len: usize, stored: bool) -> usize
     b.bytes
 }
 
-fn next_last(b: Builder, e: Encoding, joins: bool) -> usize
-    requires { ⌜ (joins ≡ true → b .last < 4294967295) ⌝ }
-    ensures { λ r. ⌜ r ≡ cond (coded e) (cond joins (b .last + 1) 1) (b .last) ⌝ }
+fn next_null(present: bool) -> usize
+    ensures { λ r. ⌜ r ≡ 1 - cond present 1 0 ⌝ }
 {
-    if needs::is_coded(e) {
-        if joins {
-            return b.last + 1;
-        }
-        return 1;
+    if present {
+        return 0;
     }
-    b.last
-}
-
-fn next_null(b: Builder, e: Encoding, present: bool) -> usize
-    ensures { λ r. ⌜ r ≡ cond (coded e) (1 - cond present 1 0) (b .null) ⌝ }
-{
-    if needs::is_coded(e) {
-        if present {
-            return 0;
-        }
-        return 1;
-    }
-    b.null
-}
-
-fn next_counts(b: Builder, e: Encoding, joins: bool) -> usize
-    requires { ⌜ (coded e ≡ true → b .counts ≤ 16777216) × (joins ≡ true → b .last < 4294967295) ⌝ }
-    ensures { λ r. ⌜ r ≡ cond (coded e) (b .counts + cond joins (growthOf (b .last)) 1) (b .counts) ⌝ }
-{
-    if needs::is_coded(e) {
-        if joins {
-            return b.counts + growth(b.last);
-        }
-        return b.counts + 1;
-    }
-    b.counts
+    1
 }
 
 // With a row that has an item of `len` bytes: whether that is stored, and whether the row joins the last run.
-fn grown(b: Builder, e: Encoding, present: bool, len: usize, stored: bool, joins: bool) -> Builder
-    requires { ⌜ (b .rows ≤ 281474976710655) × (coded e ≡ true → b .runs ≤ 1048576) × (keyed e ≡ true → b .entries ≤ 65536) × (b .bytes ≤ 16777216) × (stored ≡ true → len ≤ 16777216) × (coded e ≡ true → b .counts ≤ 16777216) × (joins ≡ true → b .last < 4294967295) ⌝ }
-    ensures { λ r. ⌜ r ≡ grownBy e b (cond present 1 0) len stored joins ⌝ }
+fn grown_run(
+    b: Builder,
+    entries: usize,
+    present: bool,
+    len: usize,
+    stored: bool,
+    joins: bool,
+) -> Builder
+    requires { ⌜ (b .rows ≤ 281474976710655) × (b .runs ≤ 1048576) × (b .bytes ≤ 16777216) × (stored ≡ true → len ≤ 16777216) × (b .counts ≤ 16777216) × (joins ≡ true → b .last < 4294967295) ⌝ }
+    ensures { λ r. ⌜ r ≡ withEntries (grownBy RunLength b (cond present 1 0) len stored joins) entries ⌝ }
 {
+    let bytes = next_bytes(b, len, stored);
+    let null = next_null(present);
+    if joins {
+        return Builder {
+            kind: b.kind,
+            encoding: b.encoding,
+            width: b.width,
+            target: b.target,
+            rows: b.rows + 1,
+            runs: b.runs,
+            entries,
+            bytes,
+            last: b.last + 1,
+            null,
+            counts: b.counts + growth(b.last),
+        };
+    }
     Builder {
         kind: b.kind,
         encoding: b.encoding,
         width: b.width,
         target: b.target,
         rows: b.rows + 1,
-        runs: next_runs(b, e, joins),
-        entries: next_entries(b, e, stored),
-        bytes: next_bytes(b, len, stored),
-        last: next_last(b, e, joins),
-        null: next_null(b, e, present),
-        counts: next_counts(b, e, joins),
+        runs: b.runs + 1,
+        entries,
+        bytes,
+        last: 1,
+        null,
+        counts: b.counts + 1,
     }
 }
 
@@ -156,19 +187,19 @@ fn too_long(stored: bool, len: usize) -> bool
     false
 }
 
-// The record with the row counted in, or 3 or 4. An item longer than any block is refused before it goes into a sum.
-pub fn counted(
+// The same answer for a row of runs, and for one of keys.
+pub fn run_counted(
     b: Builder,
     kind: Kind,
-    e: Encoding,
+    nullable: bool,
     room: Room,
     present: bool,
     len: usize,
     stored: bool,
     joins: bool,
 ) -> Appended
-    requires { ⌜ (recordWrong kind e b ≡ false) × (joins ≡ true → b .last < 4294967295) × (keyed e ≡ false → stored ≡ not joins) ⌝ }
-    ensures { λ r. ⌜ r ≡ answerBy kind e b room (grownBy e b (cond present 1 0) len stored joins) ⌝ }
+    requires { ⌜ (recordWrong kind (runsBy nullable) b ≡ false) × (joins ≡ true → b .last < 4294967295) × (stored ≡ not joins) ⌝ }
+    ensures { λ r. ⌜ r ≡ answerBy kind (runsBy nullable) b room (grownBy (runsBy nullable) b (cond present 1 0) len stored joins) ⌝ }
 {
     if too_long(stored, len) {
         return Appended {
@@ -176,14 +207,51 @@ pub fn counted(
             builder: b,
         };
     }
-    let next = grown(b, e, present, len, stored, joins);
-    if needs::past_limits(next, kind, e) {
+    let next = grown_run(b, b.entries, present, len, stored, joins);
+    if needs::runs_past(next, kind, nullable) {
         return Appended {
             number: 3,
             builder: b,
         };
     }
-    if needs::is_short(next, kind, e, room) {
+    if needs::runs_short(next, kind, nullable, room) {
+        return Appended {
+            number: 4,
+            builder: b,
+        };
+    }
+    Appended {
+        number: 0,
+        builder: next,
+    }
+}
+
+pub fn key_counted(
+    b: Builder,
+    kind: Kind,
+    room: Room,
+    present: bool,
+    len: usize,
+    stored: bool,
+    joins: bool,
+) -> Appended
+    requires { ⌜ (recordWrong kind Dictionary b ≡ false) × (joins ≡ true → b .last < 4294967295) ⌝ }
+    ensures { λ r. ⌜ r ≡ answerBy kind Dictionary b room (grownBy Dictionary b (cond present 1 0) len stored joins) ⌝ }
+{
+    if too_long(stored, len) {
+        return Appended {
+            number: 3,
+            builder: b,
+        };
+    }
+    let next = grown_run(b, next_entries(b, stored), present, len, stored, joins);
+    if needs::keys_past(next, kind) {
+        return Appended {
+            number: 3,
+            builder: b,
+        };
+    }
+    if needs::keys_short(next, kind, room) {
         return Appended {
             number: 4,
             builder: b,

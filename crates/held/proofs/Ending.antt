@@ -20,6 +20,11 @@ unfolding startIn
 start-some ends zero h q = absurd (h refl)
 start-some ends (suc i) h q = let z : suc i - 1 ≡ i = omega arith in q ∙ ap (λ (j : ℕ). getD ends j 0) z
 
+-- an item starts where the one before it ends
+pub start-next : (ends : List ℕ) (i : ℕ) {x : ℕ} → x ≡ endIn ends i → x ≡ startIn ends (i + 1)
+unfolding startIn
+start-next ends i q = let z : suc i ≡ i + 1 = omega arith in q ∙ ap (startIn ends) z
+
 module _ (n len : ℕ) (ends : List ℕ) (i : ℕ) {e s : ℕ} (p : e ≡ endIn ends i) (q : s ≡ startIn ends i) where
   pub wrong-falls : e < s → true ≡ fieldWrong Blob n len (held [] ends []) i
   unfolding fieldWrong

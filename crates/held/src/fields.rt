@@ -33,13 +33,13 @@ pub fn start_in(ends: &[u32], i: usize) -> usize
     end_in(ends, i - 1)
 }
 
-// Whether the end of blob item `i` of `n` is wrong, where the items have `len` bytes.
-pub fn blob_wrong(n: usize, len: usize, ends: &[u32], i: usize) -> bool
-    requires { ⌜ (i < n) × (n ≤ length (now ends)) ⌝ }
+// Whether the end of blob item `i` of `n`, which starts at `from`, is wrong, where the items have `len` bytes.
+pub fn blob_wrong(n: usize, len: usize, ends: &[u32], i: usize, from: usize) -> bool
+    requires { ⌜ (i < n) × (n ≤ length (now ends)) × (from ≡ startIn (now ends) i) ⌝ }
     ensures { λ r. ⌜ r ≡ fieldWrong Blob n len (held [] (now (ends .entry)) []) i ⌝ }
 {
     let end = end_in(ends, i);
-    if end < start_in(ends, i) {
+    if end < from {
         return true;
     }
     if len < end {
@@ -59,6 +59,6 @@ pub fn field_wrong(kind: Kind, n: usize, len: usize, ends: &[u32], lens: &[u8], 
     match kind {
         Kind::Fixed(_) => false,
         Kind::Char(w) => w < lens[i],
-        Kind::Blob => blob_wrong(n, len, ends, i),
+        Kind::Blob => blob_wrong(n, len, ends, i, start_in(ends, i)),
     }
 }

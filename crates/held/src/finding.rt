@@ -10,7 +10,7 @@ ghost use lib.ListN.{length, take, drop};
 ghost use Rattle.encode.specs.declared.Kind.the-variants.{Char, Blob};
 ghost use Rattle.encode.specs.Kinds.{widthOf, trueOrFalse};
 ghost use Rattle.plain.specs.Rows.{valueOf, bytes, same, sameBytes};
-ghost use Rattle.held.specs.Held.{held, heldRow, lookUp};
+ghost use Rattle.held.specs.Held.{held, startIn, heldRow, lookUp};
 ghost use Rattle.held.specs.First.{firstValue, firstNumber};
 ghost use Rattle.held.specs.Asking.{FieldsThere, BytesThere, ItemThere};
 
@@ -34,7 +34,7 @@ fn same_bytes(s: &[u8], from: usize, n: usize, t: &[u8]) -> bool
     true
 }
 
-// Whether char item `i` is `item`; whether blob item `i` is.
+// Whether char item `i` is `item`; whether blob item `i`, which starts at `from`, is.
 fn same_char(w: u8, items: &[u8], lens: &[u8], i: usize, item: &[u8]) -> bool
     requires { ⌜ ItemThere (Char w) (held (now items) [] (now lens)) i ⌝ }
     ensures { λ r. ⌜ r ≡ same (bytes (now (item .entry))) (heldRow (Char w) (held (now (items .entry)) [] (now (lens .entry))) i) ⌝ }
@@ -42,11 +42,10 @@ fn same_char(w: u8, items: &[u8], lens: &[u8], i: usize, item: &[u8]) -> bool
     same_bytes(items, i * (w as usize), lens[i] as usize, item)
 }
 
-fn same_blob(items: &[u8], ends: &[u32], i: usize, item: &[u8]) -> bool
-    requires { ⌜ ItemThere Blob (held (now items) (now ends) []) i ⌝ }
+fn same_blob(items: &[u8], ends: &[u32], i: usize, from: usize, item: &[u8]) -> bool
+    requires { ⌜ ItemThere Blob (held (now items) (now ends) []) i × (from ≡ startIn (now ends) i) ⌝ }
     ensures { λ r. ⌜ r ≡ same (bytes (now (item .entry))) (heldRow Blob (held (now (items .entry)) (now (ends .entry)) []) i) ⌝ }
 {
-    let from = fields::start_in(ends, i);
     same_bytes(items, from, fields::end_in(ends, i) - from, item)
 }
 
@@ -66,7 +65,7 @@ pub fn same_item(
     match kind {
         Kind::Fixed(p) => plain::value_at(p, items, i) == value,
         Kind::Char(w) => same_char(w, items, lens, i, item),
-        Kind::Blob => same_blob(items, ends, i, item),
+        Kind::Blob => same_blob(items, ends, i, fields::start_in(ends, i), item),
     }
 }
 
@@ -179,13 +178,15 @@ fn find_blob(items: &[u8], len: usize, ends: &[u32], n: usize, item: &[u8]) -> L
     ensures { λ r. ⌜ r ≡ lookUp Blob n len (held (now (items .entry)) (now (ends .entry)) []) (bytes (now (item .entry))) ⌝ }
 {
     let mut i = 0;
+    let mut from = 0;
     while i < n {
-        if fields::blob_wrong(n, len, ends, i) {
+        if fields::blob_wrong(n, len, ends, i, from) {
             return Looked::Bad;
         }
-        if same_blob(items, ends, i, item) {
+        if same_blob(items, ends, i, from, item) {
             return Looked::Entry(i);
         }
+        from = fields::end_in(ends, i);
         i += 1;
     }
     Looked::Entry(n)

@@ -5,24 +5,16 @@ use Rattle.build.proofs.appending.write_stored.Statement.{statement}
 use Rattle.build.proofs.appending.write_stored.Tie as tie
 use Rattle.build.proofs.appending.write_stored.Reads as reads
 use Rattle.build.proofs.appending.write_stored.Lts as lts
-use Rattle.build.proofs.needs.is_flagged.Reads as is-flagged-reads
-use Rattle.build.proofs.needs.stored.Reads as stored-reads
 use Rattle.slots.proofs.write_item.Reads as write-item-reads
 
 returns : tie.Need-returns
-returns c = let s = c .before .before .before .before .before .before in let a = s .args in laws.item-kept (a .kind) (a .e) (a .b) (a .present) (a .value) (a .item .now) (a .len) (a .items .now) (a .ends .now) (a .flags .now) (a .lens .now) (a .stored) (c .if1 .taken)
-
-is-flagged-requires : tie.Need-is-flagged-requires
-is-flagged-requires c κs = search needs
-
-stored-requires : tie.Need-stored-requires
-stored-requires c κs = search needs
+returns c = let a = c .before .before .before .before .before .before .args in laws.item-kept (a .kind) (a .nullable) (a .i) (a .at) (a .present) (a .value) (a .item .now) (a .len) (a .items .now) (a .ends .now) (a .flags .now) (a .lens .now) (a .stored) (c .if1 .taken)
 
 add-write-item : tie.Need-add-write-item
-add-write-item c = let s = c .before .before .before .before .before .before .before .before in let a = s .args in laws.item-small (a .kind) (a .e) (a .b) (a .present) (a .value) (a .item .now) (a .len) (a .items .now) (a .ends .now) (a .flags .now) (a .lens .now) (a .stored) (c .before .before .if1 .left) (s .pre)
+add-write-item c = let s = c .before .before .before .before .before .before in let a = s .args in laws.item-small (a .kind) (a .nullable) (a .i) (a .at) (a .present) (a .value) (a .item .now) (a .len) (a .items .now) (a .ends .now) (a .flags .now) (a .lens .now) (a .stored) (c .if1 .left) (s .pre)
 
 write-item-requires : tie.Need-write-item-requires
-write-item-requires c κs = let s = c .before .before .before .before .before .before .before .before .before .before .before .before in let a = s .args in laws.item-asks (a .kind) (a .e) (a .b) (a .present) (a .value) (a .item .now) (a .len) (a .items .now) (a .ends .now) (a .flags .now) (a .lens .now) (a .stored) (c .before .before .before .before .before .before .if1 .left) (s .pre) (s .fits .value) (c .before .before .before .before .before .is-flagged .ensures) (c .before .before .before .before .stored .ensures)
+write-item-requires c κs = let s = c .before .before .before .before .before .before .before .before .before .before in let a = s .args in laws.item-asks (a .kind) (a .nullable) (a .i) (a .at) (a .present) (a .value) (a .item .now) (a .len) (a .items .now) (a .ends .now) (a .flags .now) (a .lens .now) (a .stored) (c .before .before .before .before .if1 .left) (s .pre) (s .fits .value)
 
 same-length : tie.Need-same-length
 same-length c = search needs
@@ -37,15 +29,13 @@ same-length-4 : tie.Need-same-length-4
 same-length-4 c = search needs
 
 returns-2 : tie.Need-returns-2
-returns-2 c = let s = c .before .before .before .before .before .before .before .before .before .before .before .before .before .before .before .before .before .before .before .before .before in let a = s .args in laws.item-put (a .kind) (a .e) (a .b) (a .present) (a .value) (a .item .now) (a .len) (a .items .now) (a .ends .now) (a .flags .now) (a .lens .now) (a .stored) (c .before .before .before .before .before .before .before .before .before .before .before .before .before .before .before .if1 .left) (s .pre) (s .fits .value) (c .before .before .before .before .before .before .before .before .before .before .before .before .before .before .is-flagged .ensures) (c .before .before .before .before .before .before .before .before .before .before .before .before .before .stored .ensures) (c .before .before .before .before .before .before .before .before .write-item .ensures .0) (c .before .before .before .before .before .before .before .before .write-item .ensures .1 .0) (c .before .before .before .before .before .before .before .before .write-item .ensures .1 .1 .0) (c .before .before .before .before .before .before .before .before .write-item .ensures .1 .1 .1)
+returns-2 c = let s = c .before .before .before .before .before .before .before .before .before .before .before .before .before .before .before .before .before .before .before in let a = s .args in laws.item-put (a .kind) (a .nullable) (a .i) (a .at) (a .present) (a .value) (a .item .now) (a .len) (a .items .now) (a .ends .now) (a .flags .now) (a .lens .now) (a .stored) (c .before .before .before .before .before .before .before .before .before .before .before .before .before .if1 .left) (s .pre) (s .fits .value) (c .before .before .before .before .before .before .before .before .write-item .ensures .0) (c .before .before .before .before .before .before .before .before .write-item .ensures .1 .0) (c .before .before .before .before .before .before .before .before .write-item .ensures .1 .1 .0) (c .before .before .before .before .before .before .before .before .write-item .ensures .1 .1 .1)
 
 pub write-stored-spec : {M : Type 1} → statement M
 write-stored-spec =
     tie.close
     (tie.spec
     returns
-    is-flagged-requires
-    stored-requires
     add-write-item
     write-item-requires
     same-length

@@ -1,42 +1,77 @@
 -- `build::needs::block_bytes` meets its contract: each return by the law of the tests and arms that led there. Assumes nothing.
+use mathlib.Core.Bool.{true, false}
+use Rattle.build.specs.Needs.{finishedBytes}
 use Rattle.build.proofs.Recorded as laws
-use native.Mathlib.Omega.{arith}
 use borrow.Author.Needs.{needs}
 use Rattle.build.proofs.needs.block_bytes.Statement.{statement}
 use Rattle.build.proofs.needs.block_bytes.Tie as tie
+use Rattle.build.proofs.needs.block_bytes.Reads as reads
+use Rattle.build.proofs.needs.block_bytes.Lts as lts
+use Rattle.build.proofs.needs.keys_bytes.Reads as keys-bytes-reads
+use Rattle.build.proofs.needs.rows_bytes.Reads as rows-bytes-reads
+use Rattle.build.proofs.needs.runs_bytes.Reads as runs-bytes-reads
 
-inner-bytes-requires : tie.Need-inner-bytes-requires
-inner-bytes-requires c κs = (laws.few _ _ (c .pre .0) .stored, c .pre .1)
+enum-told : tie.Need-enum-told
+enum-told c = search needs
 
-run-bytes-requires : tie.Need-run-bytes-requires
-run-bytes-requires c κs = (c .before .before .pre .2 (laws.coded-runs _ (c .match .keys2)), c .before .inner-bytes .ensures .1)
+rows-bytes-requires : tie.Need-rows-bytes-requires
+rows-bytes-requires c κs = let s = c .before .before in (laws.rows-within (s .args .b) (s .pre .0) false (c .enum-told .given .1), s .pre .1)
 
-mul-run-bytes : tie.Need-mul-run-bytes
-mul-run-bytes c = let f = laws.few _ _ (c .before .before .before .before .pre .0) .runs (laws.coded-keys _ (c .before .enum-told .given .1)) in omega arith
+enum-told-2 : tie.Need-enum-told-2
+enum-told-2 c = search needs
 
-run-bytes-requires-2 : tie.Need-run-bytes-requires-2
-run-bytes-requires-2 c κs = let f = laws.few _ _ (c .before .before .before .before .pre .0) .runs (laws.coded-keys _ (c .before .enum-told .given .1)) in (c .before .before .before .before .pre .2 (laws.coded-keys _ (c .before .enum-told .given .1)), omega arith)
+rows-bytes-requires-2 : tie.Need-rows-bytes-requires-2
+rows-bytes-requires-2 c κs = let s = c .before .before in (laws.rows-within (s .args .b) (s .pre .0) true (c .enum-told2 .given .1), s .pre .1)
+
+enum-told-3 : tie.Need-enum-told-3
+enum-told-3 c = search needs
+
+runs-bytes-requires : tie.Need-runs-bytes-requires
+runs-bytes-requires c κs = let s = c .before .before in (laws.runs-within (s .args .b) (s .pre .0) false (c .enum-told3 .given .1), s .pre .1, s .pre .2 (laws.coded-by (laws.runs-coded false) (c .enum-told3 .given .1)))
+
+enum-told-4 : tie.Need-enum-told-4
+enum-told-4 c = search needs
+
+runs-bytes-requires-2 : tie.Need-runs-bytes-requires-2
+runs-bytes-requires-2 c κs = let s = c .before .before in (laws.runs-within (s .args .b) (s .pre .0) true (c .enum-told4 .given .1), s .pre .1, s .pre .2 (laws.coded-by (laws.runs-coded true) (c .enum-told4 .given .1)))
+
+enum-told-5 : tie.Need-enum-told-5
+enum-told-5 c = search needs
+
+keys-bytes-requires : tie.Need-keys-bytes-requires
+keys-bytes-requires c κs = let s = c .before .before in let w = laws.keys-within (s .args .b) (s .pre .0) (c .enum-told5 .given .1) in (w .0, w .1, s .pre .1, s .pre .2 (laws.coded-by laws.keys-coded (c .enum-told5 .given .1)))
 
 returns : tie.Need-returns
-returns c = laws.finished-inner _ _ _ (c .before .inner-bytes .ensures .0) (c .match .keys1)
+returns c = let a = c .before .before .before .args in laws.told (λ g. finishedBytes (a .kind) g (a .b)) (c .before .enum-told .given .1) (c .rows-bytes .ensures)
 
 returns-2 : tie.Need-returns-2
-returns-2 c = laws.finished-runs _ _ _ (c .before .before .inner-bytes .ensures .0) (c .before .match .keys2) (c .run-bytes .ensures .0)
+returns-2 c = let a = c .before .before .before .args in laws.told (λ g. finishedBytes (a .kind) g (a .b)) (c .before .enum-told2 .given .1) (c .rows-bytes2 .ensures)
 
 returns-3 : tie.Need-returns-3
-returns-3 c = laws.finished-keys _ _ _ (c .before .before .before .before .inner-bytes .ensures .0) (c .before .before .enum-told .given .1) (c .run-bytes2 .ensures .0)
+returns-3 c = let a = c .before .before .before .args in laws.told (λ g. finishedBytes (a .kind) g (a .b)) (c .before .enum-told3 .given .1) (c .runs-bytes .ensures)
+
+returns-4 : tie.Need-returns-4
+returns-4 c = let a = c .before .before .before .args in laws.told (λ g. finishedBytes (a .kind) g (a .b)) (c .before .enum-told4 .given .1) (c .runs-bytes2 .ensures)
+
+returns-5 : tie.Need-returns-5
+returns-5 c = let a = c .before .before .before .args in laws.told (λ g. finishedBytes (a .kind) g (a .b)) (c .before .enum-told5 .given .1) (c .keys-bytes .ensures)
 
 pub block-bytes-spec : {M : Type 1} → statement M
 block-bytes-spec =
     tie.close
     (tie.spec
-    inner-bytes-requires
-    run-bytes-requires
-    (λ c. search needs)
-    mul-run-bytes
-    run-bytes-requires-2
-    (λ c. search needs)
-    (λ c. search needs)
+    enum-told
+    rows-bytes-requires
+    enum-told-2
+    rows-bytes-requires-2
+    enum-told-3
+    runs-bytes-requires
+    enum-told-4
+    runs-bytes-requires-2
+    enum-told-5
+    keys-bytes-requires
     returns
     returns-2
-    returns-3)
+    returns-3
+    returns-4
+    returns-5)

@@ -1,14 +1,33 @@
 -- `build::needs::inner_bytes` meets its contract: each return by the law of the tests and arms that led there. Assumes nothing.
 use Rattle.build.proofs.Recorded as laws
-use native.Mathlib.Omega.{arith}
 use borrow.Author.Needs.{needs}
+use native.Mathlib.Omega.{arith}
 use Rattle.build.proofs.needs.inner_bytes.Statement.{statement}
 use Rattle.build.proofs.needs.inner_bytes.Tie as tie
+use Rattle.build.proofs.needs.inner_bytes.Reads as reads
+use Rattle.build.proofs.needs.inner_bytes.Lts as lts
+use Rattle.build.proofs.needs.plain_bytes.Reads as plain-bytes-reads
+use Rattle.nullable.proofs.bitmap_len.Reads as bitmap-len-reads
+
+plain-bytes-requires : tie.Need-plain-bytes-requires
+plain-bytes-requires c κs = search needs
+
+bitmap-len-requires : tie.Need-bitmap-len-requires
+bitmap-len-requires c κs = search needs
+
+add-result : tie.Need-add-result
+add-result c = search needs
+
+add-result-2 : tie.Need-add-result-2
+add-result-2 c = search needs
 
 returns : tie.Need-returns
-returns c = (laws.inner-sum _ _ _ (c .before .before .stored .ensures) (c .before .plain-bytes .ensures .0) (c .flag-bytes .ensures .0), omega arith)
+returns c = (laws.inner-flagged _ _ _ (c .before .before .plain-bytes .ensures .0) (c .before .if1 .taken) (c .bitmap-len .ensures .0), omega arith)
+
+returns-2 : tie.Need-returns-2
+returns-2 c = (laws.inner-bare _ _ _ (c .before .plain-bytes .ensures .0) (c .if1 .left), omega arith)
 
 pub inner-bytes-spec : {M : Type 1} → statement M
 inner-bytes-spec =
     tie.close
-    (tie.spec (λ c κs. search needs) (λ c κs. search needs) (λ c κs. search needs) (λ c. search needs) returns)
+    (tie.spec plain-bytes-requires bitmap-len-requires add-result add-result-2 returns returns-2)

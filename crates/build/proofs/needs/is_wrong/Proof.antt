@@ -1,44 +1,76 @@
 -- `build::needs::is_wrong` meets its contract: each return by the law of the tests and arms that led there. Assumes nothing.
+use Rattle.build.specs.Needs.{recordWrong}
 use Rattle.build.proofs.Recorded as laws
-use Prim.Native.Nat.{ℕ, _≤_}
-use mathlib.Core.Path.{sym, subst, _∙_}
-use native.Mathlib.Omega.{arith}
 use borrow.Author.Needs.{needs}
 use Rattle.build.proofs.needs.is_wrong.Statement.{statement}
 use Rattle.build.proofs.needs.is_wrong.Tie as tie
+use Rattle.build.proofs.needs.is_wrong.Reads as reads
+use Rattle.build.proofs.needs.is_wrong.Lts as lts
+use Rattle.build.proofs.needs.keys_wrong.Reads as keys-wrong-reads
+use Rattle.build.proofs.needs.rows_wrong.Reads as rows-wrong-reads
+use Rattle.build.proofs.needs.runs_wrong.Reads as runs-wrong-reads
+
+enum-told : tie.Need-enum-told
+enum-told c = search needs
+
+rows-wrong-requires : tie.Need-rows-wrong-requires
+rows-wrong-requires c κs = search needs
+
+enum-told-2 : tie.Need-enum-told-2
+enum-told-2 c = search needs
+
+rows-wrong-requires-2 : tie.Need-rows-wrong-requires-2
+rows-wrong-requires-2 c κs = search needs
+
+enum-told-3 : tie.Need-enum-told-3
+enum-told-3 c = search needs
+
+runs-wrong-requires : tie.Need-runs-wrong-requires
+runs-wrong-requires c κs = search needs
+
+enum-told-4 : tie.Need-enum-told-4
+enum-told-4 c = search needs
+
+runs-wrong-requires-2 : tie.Need-runs-wrong-requires-2
+runs-wrong-requires-2 c κs = search needs
+
+enum-told-5 : tie.Need-enum-told-5
+enum-told-5 c = search needs
+
+keys-wrong-requires : tie.Need-keys-wrong-requires
+keys-wrong-requires c κs = search needs
 
 returns : tie.Need-returns
-returns c = laws.wrong-counts _ _ _ (c .before .counts-wrong .ensures) (c .if1 .taken)
+returns c = let a = c .before .before .before .args in laws.told (λ g. recordWrong (a .kind) g (a .b)) (c .before .enum-told .given .1) (c .rows-wrong .ensures)
 
 returns-2 : tie.Need-returns-2
-returns-2 c = laws.wrong-past _ _ _ (c .before .before .before .counts-wrong .ensures) (c .before .before .if1 .left) (c .before .counts-past .ensures) (c .if2 .taken)
-
-bytes-wrong-requires : tie.Need-bytes-wrong-requires
-bytes-wrong-requires c κs = subst (λ (n : ℕ). n ≤ 1048576) (sym (c .stored .ensures)) (laws.few _ _ (sym (c .before .before .counts-past .ensures) ∙ c .before .if2 .left) .stored)
+returns-2 c = let a = c .before .before .before .args in laws.told (λ g. recordWrong (a .kind) g (a .b)) (c .before .enum-told2 .given .1) (c .rows-wrong2 .ensures)
 
 returns-3 : tie.Need-returns-3
-returns-3 c = laws.wrong-bytes _ _ _ (c .before .before .before .before .before .before .counts-wrong .ensures) (c .before .before .before .before .before .if1 .left) (c .before .before .before .before .counts-past .ensures) (c .before .before .before .if2 .left) (c .before .before .stored .ensures) (c .before .bytes-wrong .ensures) (c .if3 .taken)
+returns-3 c = let a = c .before .before .before .args in laws.told (λ g. recordWrong (a .kind) g (a .b)) (c .before .enum-told3 .given .1) (c .runs-wrong .ensures)
 
 returns-4 : tie.Need-returns-4
-returns-4 c = laws.wrong-large _ _ _ (c .before .before .before .before .before .before .before .before .counts-wrong .ensures) (c .before .before .before .before .before .before .before .if1 .left) (c .before .before .before .before .before .before .counts-past .ensures) (c .before .before .before .before .before .if2 .left) (c .before .before .before .before .stored .ensures) (c .before .before .before .bytes-wrong .ensures) (c .before .before .if3 .left) (c .if4 .taken)
-
-block-bytes-requires : tie.Need-block-bytes-requires
-block-bytes-requires c κs = (sym (c .before .before .before .before .before .before .counts-past .ensures) ∙ c .before .before .before .before .before .if2 .left, omega arith, laws.counts-few _ (c .before .before .before .before .before .before .before .before .before .args .b) (c .before .before .before .before .before .before .before .before .counts-wrong .ensures) (c .before .before .before .before .before .before .before .if1 .left))
+returns-4 c = let a = c .before .before .before .args in laws.told (λ g. recordWrong (a .kind) g (a .b)) (c .before .enum-told4 .given .1) (c .runs-wrong2 .ensures)
 
 returns-5 : tie.Need-returns-5
-returns-5 c = laws.wrong-block _ _ _ (c .before .before .before .before .before .before .before .before .before .counts-wrong .ensures) (c .before .before .before .before .before .before .before .before .if1 .left) (c .before .before .before .before .before .before .before .counts-past .ensures) (c .before .before .before .before .before .before .if2 .left) (c .before .before .before .before .before .stored .ensures) (c .before .before .before .before .bytes-wrong .ensures) (c .before .before .before .if3 .left) (c .block-bytes .ensures)
+returns-5 c = let a = c .before .before .before .args in laws.told (λ g. recordWrong (a .kind) g (a .b)) (c .before .enum-told5 .given .1) (c .keys-wrong .ensures)
 
 pub is-wrong-spec : {M : Type 1} → statement M
 is-wrong-spec =
     tie.close
     (tie.spec
-    (λ c κs. search needs)
+    enum-told
+    rows-wrong-requires
+    enum-told-2
+    rows-wrong-requires-2
+    enum-told-3
+    runs-wrong-requires
+    enum-told-4
+    runs-wrong-requires-2
+    enum-told-5
+    keys-wrong-requires
     returns
-    (λ c κs. search needs)
     returns-2
-    (λ c κs. search needs)
-    bytes-wrong-requires
     returns-3
     returns-4
-    block-bytes-requires
     returns-5)

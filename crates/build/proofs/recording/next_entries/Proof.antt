@@ -1,22 +1,20 @@
 -- `build::recording::next_entries` meets its contract: each return by the law of the tests and arms that led there. Assumes nothing.
-use Rattle.build.proofs.Growing as laws
-use native.Mathlib.Omega.{arith}
-use mathlib.Core.Path.{sym, _∙_}
+use mathlib.Core.Path.{refl}
+use Rattle.build.proofs.Recorded.{cond-then, cond-else}
 use borrow.Author.Needs.{needs}
 use Rattle.build.proofs.recording.next_entries.Statement.{statement}
 use Rattle.build.proofs.recording.next_entries.Tie as tie
+use Rattle.build.proofs.recording.next_entries.Reads as reads
+use Rattle.build.proofs.recording.next_entries.Lts as lts
 
 add-result : tie.Need-add-result
-add-result c = let h = c .before .before .before .before .pre (sym (c .before .before .before .is-keyed .ensures) ∙ c .before .before .if1 .taken) in omega arith
+add-result c = search needs
 
 returns : tie.Need-returns
-returns c = laws.cond-both _ _ (c .before .before .before .is-keyed .ensures) (c .before .before .if1 .taken) _ (c .before .if2 .taken)
+returns c = cond-then _ _ refl (c .before .if1 .taken)
 
 returns-2 : tie.Need-returns-2
-returns-2 c = laws.cond-second _ _ (c .before .before .is-keyed .ensures) (c .before .if1 .taken) _ (c .if2 .left)
-
-returns-3 : tie.Need-returns-3
-returns-3 c = laws.cond-first _ _ (c .before .is-keyed .ensures) (c .if1 .left) _
+returns-2 c = cond-else _ _ refl (c .if1 .left)
 
 pub next-entries-spec : {M : Type 1} → statement M
-next-entries-spec = tie.close (tie.spec (λ c κs. search needs) add-result returns returns-2 returns-3)
+next-entries-spec = tie.close (tie.spec add-result returns returns-2)

@@ -5,18 +5,18 @@ use Rattle.held.proofs.fields.blob_wrong.Statement.{statement}
 use Rattle.held.proofs.fields.blob_wrong.Tie as tie
 
 returns : tie.Need-returns
-returns c = let a = c .before .before .before .before .args in laws.wrong-falls (a .n) (a .len) (a .ends .now) (a .i) (c .before .before .end-in .ensures .0) (c .before .start-in .ensures .0) (c .if1 .taken)
+returns c = let s = c .before .before .before in let a = s .args in laws.wrong-falls (a .n) (a .len) (a .ends .now) (a .i) (c .before .end-in .ensures .0) (s .pre .2) (c .if1 .taken)
 
 returns-2 : tie.Need-returns-2
-returns-2 c = let a = c .before .before .before .before .before .args in laws.wrong-passes (a .n) (a .len) (a .ends .now) (a .i) (c .before .before .before .end-in .ensures .0) (c .before .before .start-in .ensures .0) (c .before .if1 .left) (c .if2 .taken)
+returns-2 c = let s = c .before .before .before .before in let a = s .args in laws.wrong-passes (a .n) (a .len) (a .ends .now) (a .i) (c .before .before .end-in .ensures .0) (s .pre .2) (c .before .if1 .left) (c .if2 .taken)
 
 returns-3 : tie.Need-returns-3
-returns-3 c = let a = c .before .before .before .before .before .before .args in laws.wrong-last (a .n) (a .len) (a .ends .now) (a .i) (c .before .before .before .before .end-in .ensures .0) (c .before .before .before .start-in .ensures .0) (c .before .before .if1 .left) (c .before .if2 .left) (c .if3 .taken)
+returns-3 c = let s = c .before .before .before .before .before in let a = s .args in laws.wrong-last (a .n) (a .len) (a .ends .now) (a .i) (c .before .before .before .end-in .ensures .0) (s .pre .2) (c .before .before .if1 .left) (c .before .if2 .left) (c .if3 .taken)
 
 returns-4 : tie.Need-returns-4
-returns-4 c = let a = c .before .before .before .before .before .before .args in laws.wrong-not (a .n) (a .len) (a .ends .now) (a .i) (c .before .before .before .before .end-in .ensures .0) (c .before .before .before .start-in .ensures .0) (c .before .before .if1 .left) (c .before .if2 .left) (c .if3 .left)
+returns-4 c = let s = c .before .before .before .before .before in let a = s .args in laws.wrong-not (a .n) (a .len) (a .ends .now) (a .i) (c .before .before .before .end-in .ensures .0) (s .pre .2) (c .before .before .if1 .left) (c .before .if2 .left) (c .if3 .left)
 
 pub blob-wrong-spec : {M : Type 1} → statement M
 blob-wrong-spec =
     tie.close
-    (tie.spec (λ c κs. search needs) (λ c κs. search needs) returns returns-2 (λ c. search needs) returns-3 returns-4)
+    (tie.spec (λ c κs. search needs) returns returns-2 (λ c. search needs) returns-3 returns-4)

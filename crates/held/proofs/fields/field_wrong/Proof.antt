@@ -8,8 +8,11 @@ use Rattle.held.proofs.fields.field_wrong.Tie as tie
 shared-slice-read-result : tie.Need-shared-slice-read-result
 shared-slice-read-result c = let h = char-fields _ (c .before .before .kind .given .1) _ _ (c .before .before .before .before .before .before .pre .1) in omega (arith, c .before .before .before .before .before .before .pre .0)
 
+start-in-requires : tie.Need-start-in-requires
+start-in-requires c κs = let h = blob-fields (c .enum-told2 .given .1) _ _ (c .before .before .before .before .pre .1) in omega (arith, h, c .before .before .before .before .pre .0)
+
 blob-wrong-requires : tie.Need-blob-wrong-requires
-blob-wrong-requires c κs = (c .before .before .before .before .pre .0, blob-fields (c .enum-told2 .given .1) _ _ (c .before .before .before .before .pre .1))
+blob-wrong-requires c κs = (c .before .before .before .before .before .pre .0, blob-fields (c .before .enum-told2 .given .1) _ _ (c .before .before .before .before .before .pre .1), c .start-in .ensures .0)
 
 returns : tie.Need-returns
 returns c = fixed-wrong _ (c .enum-told .given .1) _ _ _ _
@@ -18,7 +21,7 @@ returns-2 : tie.Need-returns-2
 returns-2 c = char-wrong _ (c .before .before .kind .given .1) _ _ _ _
 
 returns-3 : tie.Need-returns-3
-returns-3 c = blob-wrong (c .before .enum-told2 .given .1) _ _ _ _ _ _ (c .blob-wrong .ensures)
+returns-3 c = blob-wrong (c .before .before .enum-told2 .given .1) _ _ _ _ _ _ (c .blob-wrong .ensures)
 
 pub field-wrong-spec : {M : Type 1} → statement M
 field-wrong-spec =
@@ -27,6 +30,7 @@ field-wrong-spec =
     (λ c. search needs) (λ c. search needs)
     shared-slice-read-result
     (λ c. search needs)
+    start-in-requires
     blob-wrong-requires
     returns
     returns-2

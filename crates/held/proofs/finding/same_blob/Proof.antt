@@ -5,30 +5,25 @@ use Rattle.held.proofs.There.{blob-read}
 use Rattle.held.proofs.finding.same_blob.Statement.{statement}
 use Rattle.held.proofs.finding.same_blob.Tie as tie
 
-start-in-requires : tie.Need-start-in-requires
-unfolding ItemThere
-start-in-requires c κs = omega (arith, c .before .before .before .pre .0)
-
 end-in-requires : tie.Need-end-in-requires
 unfolding ItemThere
-end-in-requires c κs = c .before .before .before .before .pre .0
+end-in-requires c κs = c .before .before .before .pre .0 .0
 
 sub-same-bytes : tie.Need-sub-same-bytes
 unfolding ItemThere
-sub-same-bytes c = omega (arith, c .before .before .before .before .before .pre .1, c .before .start-in .ensures .0, c .end-in .ensures .0)
+sub-same-bytes c = let h = c .before .before .before .before .pre in omega (arith, h .0 .1, h .1, c .end-in .ensures .0)
 
 same-bytes-requires : tie.Need-same-bytes-requires
 unfolding ItemThere
-same-bytes-requires c κs = omega (arith, c .before .before .before .before .before .pre .1, c .before .before .before .before .before .pre .2, c .before .start-in .ensures .0, c .end-in .ensures .0)
+same-bytes-requires c κs = let h = c .before .before .before .before .pre in omega (arith, h .0 .1, h .0 .2, h .1, c .end-in .ensures .0)
 
 returns : tie.Need-returns
-returns c = let a = c .before .before .before .before .before .before .args in blob-read (a .items .now) (a .ends .now) (a .i) (a .item .now) (c .before .before .start-in .ensures .0) (c .before .end-in .ensures .0) (c .same-bytes .ensures)
+returns c = let s = c .before .before .before .before .before in let a = s .args in blob-read (a .items .now) (a .ends .now) (a .i) (a .item .now) (s .pre .1) (c .before .end-in .ensures .0) (c .same-bytes .ensures)
 
 pub same-blob-spec : {M : Type 1} → statement M
 same-blob-spec =
     tie.close
     (tie.spec
-    start-in-requires
     end-in-requires
     sub-same-bytes
     same-bytes-requires
