@@ -591,9 +591,18 @@ impl Reader {
         );
     }
 
-    // Writes the bytes and the ends of the next `n` rows of char or blob.
-    fn write_texts(self, parts: Parts, block: &[u8], n: usize, ends: &mut [u32], bytes: &mut [u8])
-        requires { ⌜ Serves parts self (now block) n × MayWrite parts self (now block) n (length (now ends)) × (sumOf (sizeIn parts (now block)) (runsOf (stepsBy parts self (now block) n)) ≤ length (now bytes)) × (sumOf (sizeIn parts (now block)) (runsOf (stepsBy parts self (now block) n)) < 2 ^ 32) × (isBytes (parts .source .kind) ≡ true) ⌝ }
+    // Writes the flags, the ends and the bytes of the next `n` rows of char or blob.
+    fn write_texts(
+        self,
+        parts: Parts,
+        block: &[u8],
+        n: usize,
+        flags: &mut [u8],
+        ends: &mut [u32],
+        bytes: &mut [u8],
+    )
+        requires { ⌜ Serves parts self (now block) n × MayWrite parts self (now block) n (length (now ends)) × (n ≤ length (now flags)) × (sumOf (sizeIn parts (now block)) (runsOf (stepsBy parts self (now block) n)) ≤ length (now bytes)) × (sumOf (sizeIn parts (now block)) (runsOf (stepsBy parts self (now block) n)) < 2 ^ 32) × (isBytes (parts .source .kind) ≡ true) ⌝ }
+        ensures { λ _. ⌜ now (flags .exit) ≡ sets (now (flags .entry)) 0 (map (flagIn parts (now (block .entry))) (runsOf (stepsBy parts self (now (block .entry)) n))) ⌝ }
         ensures { λ _. ⌜ now (ends .exit) ≡ sets (now (ends .entry)) 0 (endsFrom 0 (map (textIn parts (now (block .entry))) (runsOf (stepsBy parts self (now (block .entry)) n)))) ⌝ }
         ensures { λ _. ⌜ now (bytes .exit) ≡ sets (now (bytes .entry)) 0 (joined (textIn parts (now (block .entry))) (runsOf (stepsBy parts self (now (block .entry)) n))) ⌝ }
     {
@@ -615,6 +624,7 @@ impl Reader {
             &block[i..j],
             from,
             n,
+            flags,
             ends,
             bytes,
         );
@@ -746,8 +756,7 @@ impl Reader {
         if 4294967295 < total {
             return refused(4, self);
         }
-        self.write_texts(parts, block, n, ends, bytes);
-        self.write_flags(parts, block, n, flags);
+        self.write_texts(parts, block, n, flags, ends, bytes);
         let source = parts.source;
         Given {
             number: 0,

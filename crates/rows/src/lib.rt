@@ -16,7 +16,7 @@ ghost use mathlib.Core.Path.{_≡_};
 ghost use mathlib.Core.Bool.{true};
 ghost use mathlib.Core.List.{map};
 ghost use Prim.Native.Nat.{_+_, _-_, _*_, _<_, _≤_, _^_};
-ghost use lib.ListN.{length, take, drop};
+ghost use lib.ListN.{length, take, drop, replicate};
 ghost use lib.Seq.{sets};
 ghost use Rattle.encode.specs.declared.Kind.the-variants.{Fixed, Char, Blob};
 ghost use Rattle.plain.specs.Plain.{joined, endsFrom, leastBytes, endsGood};
@@ -582,6 +582,18 @@ fn flag_of(slot: usize) -> u8
     if slot == 0 { 0 } else { 1 }
 }
 
+// `rows` times one flag. One row, which is what most runs of a dictionary have, takes no loop.
+fn fill_flags(flags: &mut [u8], to: usize, rows: usize, flag: u8)
+    requires { ⌜ to + rows ≤ length (now flags) ⌝ }
+    ensures { λ _. ⌜ now (flags .exit) ≡ sets (now (flags .entry)) to (replicate rows flag) ⌝ }
+{
+    if rows == 1 {
+        flags[to] = flag;
+        return;
+    }
+    area::fill_bytes(flags, to, rows, flag);
+}
+
 // Writes the flags of the next `n` rows, run by run.
 pub fn put_flags(
     s: Source,
@@ -602,7 +614,7 @@ pub fn put_flags(
         let run = next_run(s, counts, marks, items, at, left);
         let rows = run.rows;
         let next = run.next;
-        area::fill_bytes(flags, to, rows, flag_of(run.slot));
+        fill_flags(flags, to, rows, flag_of(run.slot));
         to += rows;
         left -= rows;
         at = next;
@@ -650,7 +662,8 @@ fn put_text(
     at + rows * range.len
 }
 
-// Writes the bytes and the ends of the next `n` rows, run by run: a loop for char and one for blob.
+// Writes the flags, the ends and the bytes of the next `n` rows, run by run: a loop for char and one for blob. A run is looked up
+// once for all three.
 fn put_chars(
     w: usize,
     s: Source,
@@ -659,10 +672,12 @@ fn put_chars(
     items: &[u8],
     from: Spot,
     n: usize,
+    flags: &mut [u8],
     ends: &mut [u32],
     bytes: &mut [u8],
 )
-    requires { ⌜ Ready s (now marks) (now items) × Starts s from n × (s .kind ≡ Char w) × Writes (goodBy s (now marks) (now items)) (stepsIn (s .coded) (s .runs) (now counts) n from) n (length (now ends)) × (sumOf (sizeBy s (now marks) (now items)) (runsOf (stepsIn (s .coded) (s .runs) (now counts) n from)) ≤ length (now bytes)) × (sumOf (sizeBy s (now marks) (now items)) (runsOf (stepsIn (s .coded) (s .runs) (now counts) n from)) < 2 ^ 32) × (w < 256) ⌝ }
+    requires { ⌜ Ready s (now marks) (now items) × Starts s from n × (s .kind ≡ Char w) × Writes (goodBy s (now marks) (now items)) (stepsIn (s .coded) (s .runs) (now counts) n from) n (length (now ends)) × (n ≤ length (now flags)) × (sumOf (sizeBy s (now marks) (now items)) (runsOf (stepsIn (s .coded) (s .runs) (now counts) n from)) ≤ length (now bytes)) × (sumOf (sizeBy s (now marks) (now items)) (runsOf (stepsIn (s .coded) (s .runs) (now counts) n from)) < 2 ^ 32) × (w < 256) ⌝ }
+    ensures { λ _. ⌜ now (flags .exit) ≡ sets (now (flags .entry)) 0 (map (flagBy s (now (marks .entry)) (now (items .entry))) (runsOf (stepsIn (s .coded) (s .runs) (now (counts .entry)) n from))) ⌝ }
     ensures { λ _. ⌜ now (ends .exit) ≡ sets (now (ends .entry)) 0 (endsFrom 0 (map (textBy s (now (marks .entry)) (now (items .entry))) (runsOf (stepsIn (s .coded) (s .runs) (now (counts .entry)) n from)))) ⌝ }
     ensures { λ _. ⌜ now (bytes .exit) ≡ sets (now (bytes .entry)) 0 (joined (textBy s (now (marks .entry)) (now (items .entry))) (runsOf (stepsIn (s .coded) (s .runs) (now (counts .entry)) n from))) ⌝ }
 {
@@ -675,6 +690,8 @@ fn put_chars(
         let rows = run.rows;
         let next = run.next;
         let range = char_of(w, s.items, items, run.slot);
+        let flag = flag_of(run.slot);
+        fill_flags(flags, to, rows, flag);
         at = put_text(items, range, rows, ends, to, bytes, at);
         to += rows;
         left -= rows;
@@ -689,10 +706,12 @@ fn put_blobs(
     items: &[u8],
     from: Spot,
     n: usize,
+    flags: &mut [u8],
     ends: &mut [u32],
     bytes: &mut [u8],
 )
-    requires { ⌜ Ready s (now marks) (now items) × Starts s from n × (s .kind ≡ Blob) × Writes (goodBy s (now marks) (now items)) (stepsIn (s .coded) (s .runs) (now counts) n from) n (length (now ends)) × (sumOf (sizeBy s (now marks) (now items)) (runsOf (stepsIn (s .coded) (s .runs) (now counts) n from)) ≤ length (now bytes)) × (sumOf (sizeBy s (now marks) (now items)) (runsOf (stepsIn (s .coded) (s .runs) (now counts) n from)) < 2 ^ 32) ⌝ }
+    requires { ⌜ Ready s (now marks) (now items) × Starts s from n × (s .kind ≡ Blob) × Writes (goodBy s (now marks) (now items)) (stepsIn (s .coded) (s .runs) (now counts) n from) n (length (now ends)) × (n ≤ length (now flags)) × (sumOf (sizeBy s (now marks) (now items)) (runsOf (stepsIn (s .coded) (s .runs) (now counts) n from)) ≤ length (now bytes)) × (sumOf (sizeBy s (now marks) (now items)) (runsOf (stepsIn (s .coded) (s .runs) (now counts) n from)) < 2 ^ 32) ⌝ }
+    ensures { λ _. ⌜ now (flags .exit) ≡ sets (now (flags .entry)) 0 (map (flagBy s (now (marks .entry)) (now (items .entry))) (runsOf (stepsIn (s .coded) (s .runs) (now (counts .entry)) n from))) ⌝ }
     ensures { λ _. ⌜ now (ends .exit) ≡ sets (now (ends .entry)) 0 (endsFrom 0 (map (textBy s (now (marks .entry)) (now (items .entry))) (runsOf (stepsIn (s .coded) (s .runs) (now (counts .entry)) n from)))) ⌝ }
     ensures { λ _. ⌜ now (bytes .exit) ≡ sets (now (bytes .entry)) 0 (joined (textBy s (now (marks .entry)) (now (items .entry))) (runsOf (stepsIn (s .coded) (s .runs) (now (counts .entry)) n from))) ⌝ }
 {
@@ -705,6 +724,8 @@ fn put_blobs(
         let rows = run.rows;
         let next = run.next;
         let range = blob_of(s.items, items, run.slot);
+        let flag = flag_of(run.slot);
+        fill_flags(flags, to, rows, flag);
         at = put_text(items, range, rows, ends, to, bytes, at);
         to += rows;
         left -= rows;
@@ -712,7 +733,7 @@ fn put_blobs(
     }
 }
 
-// Writes the bytes and the ends of the next `n` rows of char or blob.
+// Writes the flags, the ends and the bytes of the next `n` rows of char or blob.
 pub fn put_texts(
     s: Source,
     counts: &[u8],
@@ -720,17 +741,30 @@ pub fn put_texts(
     items: &[u8],
     from: Spot,
     n: usize,
+    flags: &mut [u8],
     ends: &mut [u32],
     bytes: &mut [u8],
 )
-    requires { ⌜ Ready s (now marks) (now items) × Starts s from n × Writes (goodBy s (now marks) (now items)) (stepsIn (s .coded) (s .runs) (now counts) n from) n (length (now ends)) × (sumOf (sizeBy s (now marks) (now items)) (runsOf (stepsIn (s .coded) (s .runs) (now counts) n from)) ≤ length (now bytes)) × (sumOf (sizeBy s (now marks) (now items)) (runsOf (stepsIn (s .coded) (s .runs) (now counts) n from)) < 2 ^ 32) × Texts (s .kind) ⌝ }
+    requires { ⌜ Ready s (now marks) (now items) × Starts s from n × Writes (goodBy s (now marks) (now items)) (stepsIn (s .coded) (s .runs) (now counts) n from) n (length (now ends)) × (n ≤ length (now flags)) × (sumOf (sizeBy s (now marks) (now items)) (runsOf (stepsIn (s .coded) (s .runs) (now counts) n from)) ≤ length (now bytes)) × (sumOf (sizeBy s (now marks) (now items)) (runsOf (stepsIn (s .coded) (s .runs) (now counts) n from)) < 2 ^ 32) × Texts (s .kind) ⌝ }
+    ensures { λ _. ⌜ now (flags .exit) ≡ sets (now (flags .entry)) 0 (map (flagBy s (now (marks .entry)) (now (items .entry))) (runsOf (stepsIn (s .coded) (s .runs) (now (counts .entry)) n from))) ⌝ }
     ensures { λ _. ⌜ now (ends .exit) ≡ sets (now (ends .entry)) 0 (endsFrom 0 (map (textBy s (now (marks .entry)) (now (items .entry))) (runsOf (stepsIn (s .coded) (s .runs) (now (counts .entry)) n from)))) ⌝ }
     ensures { λ _. ⌜ now (bytes .exit) ≡ sets (now (bytes .entry)) 0 (joined (textBy s (now (marks .entry)) (now (items .entry))) (runsOf (stepsIn (s .coded) (s .runs) (now (counts .entry)) n from))) ⌝ }
 {
     let kind = s.kind;
     match kind {
         Kind::Fixed(_) => {}
-        Kind::Char(w) => put_chars(w as usize, s, counts, marks, items, from, n, ends, bytes),
-        Kind::Blob => put_blobs(s, counts, marks, items, from, n, ends, bytes),
+        Kind::Char(w) => put_chars(
+            w as usize,
+            s,
+            counts,
+            marks,
+            items,
+            from,
+            n,
+            flags,
+            ends,
+            bytes,
+        ),
+        Kind::Blob => put_blobs(s, counts, marks, items, from, n, flags, ends, bytes),
     }
 }

@@ -25,8 +25,8 @@ next-run-requires c κs =
     let w = c .before .loop .inv .going in
     (s .pre .0, pieces.starts-few _ _ _ _ (s .pre .0 .short) (w .starts), pieces.going-piece w (omega arith) (s .pre .2))
 
-fill-bytes-requires : tie.Need-fill-bytes-requires Inv-loop μ-loop
-fill-bytes-requires c κs =
+fill-flags-requires : tie.Need-fill-flags-requires Inv-loop μ-loop
+fill-flags-requires c κs =
     let d = c .before .before .before in
     laws.storing-room (d .before .before .loop .inv) (omega arith) refl (d .next-run .ensures .0) (c .before .before .before .before .before .before .before .before .before .before .pre .2 .rows)
 
@@ -51,7 +51,7 @@ loop-again c =
     let d = c .before .before .before .before .before .before in
     let a = c .before .before .before .before .before .before .before .before .before .before .before .before .before .args in
     laws.storing-on (d .before .before .loop .inv) (omega arith) refl (d .next-run .ensures .0)
-    (λ h. places.flag-row (a .s) (a .marks .now) (a .items .now) _ (d .next-run .ensures .1 h) (c .before .before .before .flag-of .ensures)) (c .before .before .fill-bytes .ensures)
+    (λ h. places.flag-row (a .s) (a .marks .now) (a .items .now) _ (d .next-run .ensures .1 h) (c .before .before .before .flag-of .ensures)) (c .before .before .fill-flags .ensures)
 
 same-length : tie.Need-same-length Inv-loop μ-loop
 same-length c = laws.storing-long (c .before .loop .inv)
@@ -62,4 +62,4 @@ returns c = laws.storing-end (c .before .loop .inv) (omega arith)
 pub put-flags-spec : {M : Type 1} → statement M
 put-flags-spec =
     tie.close
-    (tie.spec Inv-loop μ-loop loop-holds next-run-requires (λ c κs. search needs) fill-bytes-requires add-to sub-left loop-less loop-again same-length returns)
+    (tie.spec Inv-loop μ-loop loop-holds next-run-requires (λ c κs. search needs) fill-flags-requires add-to sub-left loop-less loop-again same-length returns)

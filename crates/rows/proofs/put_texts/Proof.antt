@@ -5,7 +5,7 @@ use Rattle.rows.proofs.put_texts.Statement.{statement}
 use Rattle.rows.proofs.put_texts.Tie as tie
 
 returns : tie.Need-returns
-returns c = absurd (not-fixed _ (c .enum-told .given .1) (c .before .before .before .before .before .before .before .pre .5))
+returns c = absurd (not-fixed _ (c .enum-told .given .1) (c .before .before .before .before .before .before .before .before .pre .6))
 
 pub put-texts-spec : {M : Type 1} → statement M
 put-texts-spec =
@@ -13,4 +13,5 @@ put-texts-spec =
     (tie.spec
     (λ c. search needs) (λ c. search needs) (λ c. search needs) (λ c κs. search needs) (λ c. search needs) (λ c κs. search needs)
     returns
-    (λ c. search needs) (λ c. search needs) (λ c. search needs) (λ c. search needs) (λ c. search needs) (λ c. search needs))
+    (λ c. search needs) (λ c. search needs) (λ c. search needs) (λ c. search needs) (λ c. search needs) (λ c. search needs)
+    (λ c. search needs) (λ c. search needs))

@@ -63,15 +63,12 @@ returns-5 c = let a = c .before .before .before .before .before .before .before 
     (total-high (a .parts) (a .self) (a .block .now) (a .n) (l .steps) (l .right) (endsAndBytes (a .flags .now) (a .ends .now) (a .bytes .now)) (c .before .before .before .before .before .before .before .before .before .before .before .before .before .pre .1) _ (l .weight) (omega arith))
 
 write-texts-requires : tie.Need-write-texts-requires
-write-texts-requires c κs = let a = c .before .before .before .before .before .before .before .before .before .before .before .before .before .before .args in
-    let l = looked-total (a .parts) (a .self) (a .block .now) (a .n) (sym (c .before .before .before .before .before .before .before .weighed .given .1) ∙ c .before .before .before .before .before .before .before .before .before .look .ensures) in
+write-texts-requires c κs =
+    let s = c .before .before .before .before .before .before .before .before .before .before .before .before .before .before .before in
+    let a = s .args in
+    let l = looked-total (a .parts) (a .self) (a .block .now) (a .n) (sym (c .before .before .before .before .before .before .before .before .weighed .given .1) ∙ c .before .before .before .before .before .before .before .before .before .before .look .ensures) in
     let f = sum-fits (a .parts) (a .self) (a .block .now) (a .n) (l .steps) _ (length (a .bytes .now)) (l .weight) (omega arith) (omega arith) in
-    (c .before .before .before .before .before .before .before .before .before .before .before .before .before .before .pre .0, writes (a .parts) (a .self) (a .block .now) (a .n) (length (a .ends .now)) (l .steps) (l .right) (omega arith), f .0, f .1, c .before .before .before .before .before .before .before .before .before .before .before .before .before .before .pre .1)
-
-write-flags-requires : tie.Need-write-flags-requires
-write-flags-requires c κs = let a = c .before .before .before .before .before .before .before .before .before .before .before .before .before .before .before .before .before .before .before .before .args in
-    let l = looked-total (a .parts) (a .self) (a .block .now) (a .n) (sym (c .before .before .before .before .before .before .before .before .before .before .before .before .before .weighed .given .1) ∙ c .before .before .before .before .before .before .before .before .before .before .before .before .before .before .before .look .ensures) in
-    (c .before .before .before .before .before .before .before .before .before .before .before .before .before .before .before .before .before .before .before .before .pre .0, writes (a .parts) (a .self) (a .block .now) (a .n) (length (a .flags .now)) (l .steps) (l .right) (omega arith))
+    (s .pre .0, writes (a .parts) (a .self) (a .block .now) (a .n) (length (a .ends .now)) (l .steps) (l .right) (omega arith), omega arith, f .0, f .1, s .pre .1)
 
 moved-requires : tie.Need-moved-requires
 moved-requires c κs = search needs
@@ -86,10 +83,14 @@ same-length-3 : tie.Need-same-length-3
 same-length-3 c = search needs
 
 returns-6 : tie.Need-returns-6
-returns-6 c = let a = c .before .before .before .before .before .before .before .before .before .before .before .before .before .before .before .before .before .before .before .before .before .before .before .before .before .args in
-    let l = looked-total (a .parts) (a .self) (a .block .now) (a .n) (sym (c .before .before .before .before .before .before .before .before .before .before .before .before .before .before .before .before .before .before .weighed .given .1) ∙ c .before .before .before .before .before .before .before .before .before .before .before .before .before .before .before .before .before .before .before .before .look .ensures) in
+returns-6 c =
+    let s = c .before .before .before .before .before .before .before .before .before .before .before .before .before .before .before .before .before .before .before .before .before .before .before .before in
+    let a = s .args in
+    let l = looked-total (a .parts) (a .self) (a .block .now) (a .n) (sym (c .before .before .before .before .before .before .before .before .before .before .before .before .before .before .before .before .before .weighed .given .1) ∙ c .before .before .before .before .before .before .before .before .before .before .before .before .before .before .before .before .before .before .before .look .ensures) in
+    let u = c .before .before .before .before .before .before .before .before .before .before .before .before in
+    let w = c .before .before .before .before .before .before .before .before .write-texts .ensures in
     texts-written (a .parts) (a .self) (a .block .now) (a .n) (l .steps) (l .right) (a .parts .source .coded) refl (c .moved .result) (c .moved .ensures)
-    (endsAndBytes (a .flags .now) (a .ends .now) (a .bytes .now)) (c .before .before .before .before .before .before .before .before .before .before .before .before .before .before .before .before .before .before .before .before .before .before .before .before .before .pre .1) _ (l .weight) _ _ _ (omega arith) (omega arith) (omega arith) (omega arith) (c .before .before .before .before .write-flags .ensures) (c .before .before .before .before .before .before .before .before .before .before .write-texts .ensures .0) (c .before .before .before .before .before .before .before .before .before .before .write-texts .ensures .1)
+    (endsAndBytes (a .flags .now) (a .ends .now) (a .bytes .now)) (s .pre .1) _ (l .weight) _ _ _ (u .before .before .before .if1 .left) (u .before .before .if2 .left) (u .before .if3 .left) (u .if4 .left) (w .0) (w .1 .0) (w .1 .1)
 
 pub give-weighed-spec : {M : Type 1} → statement M
 give-weighed-spec =
@@ -109,7 +110,6 @@ give-weighed-spec =
     refused-requires-5
     returns-5
     write-texts-requires
-    write-flags-requires
     moved-requires
     same-length
     same-length-2

@@ -37,7 +37,10 @@ part-put-texts-end-3 c = search needs
 
 put-texts-requires : tie.Need-put-texts-requires
 unfolding partIn stepsBy
-put-texts-requires c κs = (c .before .before .before .before .before .before .before .before .before .before .before .before .before .pre .0 .ready, rw (c .before .before .before .before .before .before .before .before .spot .ensures) (c .before .before .before .before .before .before .before .before .before .before .before .before .before .pre .0 .starts), rw (c .before .before .before .before .before .before .before .before .spot .ensures) (c .before .before .before .before .before .before .before .before .before .before .before .before .before .pre .1), rw (c .before .before .before .before .before .before .before .before .spot .ensures) (c .before .before .before .before .before .before .before .before .before .before .before .before .before .pre .2), rw (c .before .before .before .before .before .before .before .before .spot .ensures) (c .before .before .before .before .before .before .before .before .before .before .before .before .before .pre .3), is-text _ (c .before .before .before .before .before .before .before .before .before .before .before .before .before .pre .4))
+put-texts-requires c κs =
+    let s = c .before .before .before .before .before .before .before .before .before .before .before .before .before .before .before in
+    let at = c .before .before .before .before .before .before .before .before .before .spot .ensures in
+    (s .pre .0 .ready, rw at (s .pre .0 .starts), rw at (s .pre .1), s .pre .2, rw at (s .pre .3), rw at (s .pre .4), is-text _ (s .pre .5))
 
 same-length : tie.Need-same-length
 same-length c = search needs
@@ -45,9 +48,12 @@ same-length c = search needs
 same-length-2 : tie.Need-same-length-2
 same-length-2 c = search needs
 
+same-length-3 : tie.Need-same-length-3
+same-length-3 c = search needs
+
 returns : tie.Need-returns
 unfolding partIn stepsBy
-returns c = rw (← (c .before .before .before .before .before .before .before .before .before .before .before .before .before .spot .ensures)) (c .before .before .before .before .put-texts .ensures)
+returns c = rw (← (c .before .before .before .before .before .before .before .before .before .before .before .before .before .before .before .before .spot .ensures)) (c .before .before .before .before .before .before .put-texts .ensures)
 
 pub write-texts-spec : {M : Type 1} → statement M
 write-texts-spec =
@@ -66,4 +72,5 @@ write-texts-spec =
     put-texts-requires
     same-length
     same-length-2
+    same-length-3
     returns)
