@@ -1,8 +1,8 @@
-"""Makes the commands and the stored answers of the program `reads`: crates/reads/stdin and crates/reads/stdout.
+"""Makes the commands and the stored answers of the program `try_reading`: crates/try_reading/stdin and crates/try_reading/stdout.
 
     python3 tools/answers.py [SEED FOLDER]
 
-The answers are those of tools/model.py; crates/reads/src/main.rt says what a command is. With no arguments the files are
+The answers are those of tools/model.py; crates/try_reading/src/main.rt says what a command is. With no arguments the files are
 always the same; with another seed the random commands are others, and the two files go to the folder. Where document 01 says
 which number a call answers, the call expects it here, and a model that answers another stops the run.
 

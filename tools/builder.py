@@ -1,8 +1,8 @@
-"""A second reading of document 01, "Building" and "Sizes", in Python, made apart from the definitions under crates/build/specs.
+"""A second reading of document 01, "Building" and "Sizes", in Python, made apart from the definitions under crates/builder/specs.
 
 It says of every call what it answers and what the lent areas then hold, for any record and any memory. A record is a dictionary of
 FIELDS; the areas are a dictionary of AREAS, of each of which the first cells are lent, as many as `lent` says. tools/building.py
-makes the stored answers of the program `builds` with it.
+makes the stored answers of the program `try_building` with it.
 """
 from model import BLOB, CHAR, FIXED, MOST_RUN, NULL_KEY, spell
 import model

@@ -1,8 +1,8 @@
-"""Makes the commands and the stored answers of the program `builds`: crates/builds/stdin and crates/builds/stdout.
+"""Makes the commands and the stored answers of the program `try_building`: crates/try_building/stdin and crates/try_building/stdout.
 
     python3 tools/building.py [SEED FOLDER [SECTION ..]]
 
-The answers are those of tools/builder.py; crates/builds/src/main.rt says what a command is. With no arguments the files are always
+The answers are those of tools/builder.py; crates/try_building/src/main.rt says what a command is. With no arguments the files are always
 the same; with another seed the random commands are others, and the two files go to the folder, for all sections below or for those
 that are named (`rt try` takes 10,000,000 steps of its interpreter and a megabyte of answers at most: samples, counts, order). Where
 document 01 says which number a call answers, the call expects it here, and a model that answers another stops the run. A list that

@@ -1,11 +1,11 @@
-"""Makes the inputs and the stored answers of the programs `list` and `lists` (their files stdin and stdout), and the sample
+"""Makes the inputs and the stored answers of the programs `list` and `try_listing` (their files stdin and stdout), and the sample
 files of samples/.
 
     python3 tools/listings.py [SEED FOLDER]
 
 The listing is written here a second time, from document 01's "Listing program" and with tools/model.py, which opens and reads
-blocks. crates/lists/src/main.rt says how the inputs of `lists` are packed. With no arguments the files are always the same; with
-another seed the random inputs are others, and the two files of `lists` go to the folder.
+blocks. crates/try_listing/src/main.rt says how the inputs of `try_listing` are packed. With no arguments the files are always the same; with
+another seed the random inputs are others, and the two files of `try_listing` go to the folder.
 
 Not tried here, for the size of its answer: the listing of 131 MB.
 """
@@ -231,7 +231,7 @@ def at_random(s, times):
 
 
 def main(args):
-    seed, folder = (int(args[0]), pathlib.Path(args[1])) if args else (SEED, ROOT / "crates/lists")
+    seed, folder = (int(args[0]), pathlib.Path(args[1])) if args else (SEED, ROOT / "crates/try_listing")
     s = Script(seed)
     limits(s)
     refusals(s)

@@ -1,3 +1,3 @@
 pub mod Laws
 pub mod Loops
-pub mod Putting
+pub mod FirstBytes

@@ -1,11 +1,5 @@
-pub mod Record
-pub mod Laying
-pub mod Stepwise
-pub mod Moving
-pub mod Giving
-pub mod Singly
-pub mod Testing
-pub mod Dividing
-pub mod Skipping
-pub mod Opening
-pub mod Batching
+pub mod OpeningCases
+pub mod RecordTests
+pub mod NextRows
+pub mod SkipCases
+pub mod BatchCases

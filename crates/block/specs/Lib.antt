@@ -1,3 +1,3 @@
 pub mod Reading
 pub mod Calls
-pub mod Parts
+pub mod Spots

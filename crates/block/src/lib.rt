@@ -1,9 +1,12 @@
 // Blocks of every kind and encoding: a reader by value, and its calls.
 mod reading;
 
+pub use reading::no_reader;
 pub use reading::open;
 ghost use mathlib.Core.Path.{_≡_};
-use rows::Source;
+ghost use Rattle.block.specs.Reading.{opened, openingOf};
+use format::Head;
+use rle::Spot;
 
 // A reader: what opening was given and found at the block's head, and where reading stands. Any numbers can stand here.
 #[repr(C)]
@@ -13,20 +16,22 @@ pub struct Reader {
     pub width: usize,
     pub rows: usize,
     pub len: usize,
-    pub runs: usize,
-    pub counts: usize,
-    pub keys: usize,
-    pub entries: usize,
+    pub head: Head,
     pub place: usize,
-    pub run: usize,
-    pub at: usize,
-    pub taken: usize,
+    pub spot: Spot,
 }
 
 // What opening answers: a refused block has no reader.
 pub enum Opened {
     Open(Reader),
     Refused(u8),
+}
+
+// The same as a number and a record, for callers who take no enum: 0 and a reader, or a refusal and a record that names no column.
+#[repr(C)]
+pub struct Opening {
+    pub number: u8,
+    pub reader: Reader,
 }
 
 // What a skip answers: 0, or a refusal with the reader as it was.
@@ -52,16 +57,22 @@ pub struct Left {
     pub rows: usize,
 }
 
-// A part of a block.
-pub struct Part {
-    pub from: usize,
-    pub to: usize,
-}
-
-// The parts of a block, and how they are read.
-pub struct Parts {
-    pub source: Source,
-    pub counts: Part,
-    pub marks: Part,
-    pub items: Part,
+// Opens a block, and answers a number and a record.
+pub fn open_by_number(
+    kind: usize,
+    encoding: usize,
+    width: usize,
+    rows: usize,
+    block: &[u8],
+) -> Opening
+    ensures { λ r. ⌜ r ≡ openingOf (opened kind encoding width rows (now (block .entry))) ⌝ }
+{
+    let answer = open(kind, encoding, width, rows, block);
+    match answer {
+        Opened::Open(reader) => Opening { number: 0, reader },
+        Opened::Refused(number) => Opening {
+            number,
+            reader: no_reader(),
+        },
+    }
 }

@@ -1,16 +1,16 @@
 // The calls that build blocks.
-use build::Appended;
-use build::Asked;
-use build::Builder;
-use build::Created;
-use build::Estimated;
-use build::Finished;
+use builder::Appended;
+use builder::Asked;
+use builder::Builder;
+use builder::Created;
+use builder::Estimated;
+use builder::Finished;
 ghost use mathlib.Core.Path.{_≡_};
 ghost use mathlib.Core.Bool.{not};
 ghost use lib.Dec.{eqb};
-ghost use Rattle.build.specs.Needs.{areas};
-ghost use Rattle.build.specs.Building.{created, appended};
-ghost use Rattle.build.specs.Finishing.{finished, estimated, asked};
+ghost use Rattle.append.specs.Appending.{lent};
+ghost use Rattle.builder.specs.Building.{created, appended};
+ghost use Rattle.builder.specs.Finishing.{finished, estimated, asked};
 ghost use Rattle.capi.specs.Answers.{noBuilder, creationOf};
 
 // What creation answers: 0 and a builder, or a refusal and the record that every call refuses.
@@ -24,19 +24,7 @@ pub struct Creation {
 fn no_builder() -> Builder
     ensures { λ r. ⌜ r ≡ noBuilder ⌝ }
 {
-    Builder {
-        kind: 255,
-        encoding: 0,
-        width: 0,
-        target: 0,
-        rows: 0,
-        runs: 0,
-        entries: 0,
-        bytes: 0,
-        last: 0,
-        null: 0,
-        counts: 0,
-    }
+    Builder::new(255, 0, 0, 0)
 }
 
 // A flag from C: 0 is null.
@@ -51,7 +39,7 @@ fn is_present(flag: u8) -> bool
 pub extern "C" fn idz_create(kind: usize, encoding: usize, width: usize, target: usize) -> Creation
     ensures { λ r. ⌜ r ≡ creationOf (created kind encoding width target) ⌝ }
 {
-    let answer = build::create(kind, encoding, width, target);
+    let answer = builder::create(kind, encoding, width, target);
     match answer {
         Created::New(builder) => Creation { number: 0, builder },
         Created::Refused(number) => Creation {
@@ -75,13 +63,27 @@ pub extern "C" fn idz_append(
     value: i64,
     item: &[u8],
 ) -> Appended
-    ensures { λ r. ⌜ r ≡ appended builder (areas (now (items .entry)) (now (ends .entry)) (now (flags .entry)) (now (counts .entry)) (now (keys .entry)) (now (lens .entry))) (not (eqb present 0)) value (now (item .entry)) .answer ⌝ }
-    ensures { λ _. ⌜ now (items .exit) ≡ appended builder (areas (now (items .entry)) (now (ends .entry)) (now (flags .entry)) (now (counts .entry)) (now (keys .entry)) (now (lens .entry))) (not (eqb present 0)) value (now (item .entry)) .areas .items ⌝ }
-    ensures { λ _. ⌜ now (ends .exit) ≡ appended builder (areas (now (items .entry)) (now (ends .entry)) (now (flags .entry)) (now (counts .entry)) (now (keys .entry)) (now (lens .entry))) (not (eqb present 0)) value (now (item .entry)) .areas .ends ⌝ }
-    ensures { λ _. ⌜ now (flags .exit) ≡ appended builder (areas (now (items .entry)) (now (ends .entry)) (now (flags .entry)) (now (counts .entry)) (now (keys .entry)) (now (lens .entry))) (not (eqb present 0)) value (now (item .entry)) .areas .flags ⌝ }
-    ensures { λ _. ⌜ now (counts .exit) ≡ appended builder (areas (now (items .entry)) (now (ends .entry)) (now (flags .entry)) (now (counts .entry)) (now (keys .entry)) (now (lens .entry))) (not (eqb present 0)) value (now (item .entry)) .areas .counts ⌝ }
-    ensures { λ _. ⌜ now (keys .exit) ≡ appended builder (areas (now (items .entry)) (now (ends .entry)) (now (flags .entry)) (now (counts .entry)) (now (keys .entry)) (now (lens .entry))) (not (eqb present 0)) value (now (item .entry)) .areas .keys ⌝ }
-    ensures { λ _. ⌜ now (lens .exit) ≡ appended builder (areas (now (items .entry)) (now (ends .entry)) (now (flags .entry)) (now (counts .entry)) (now (keys .entry)) (now (lens .entry))) (not (eqb present 0)) value (now (item .entry)) .areas .lens ⌝ }
+    ensures { λ r. ⌜ r
+        ≡ appended builder (lent (now (items .entry)) (now (ends .entry)) (now (flags .entry)) (now (counts .entry)) (now (keys .entry)) (now (lens .entry)))
+        (not (eqb present 0)) value (now (item .entry)) .answer ⌝ }
+    ensures { λ _. ⌜ now (items .exit)
+        ≡ appended builder (lent (now (items .entry)) (now (ends .entry)) (now (flags .entry)) (now (counts .entry)) (now (keys .entry)) (now (lens .entry)))
+        (not (eqb present 0)) value (now (item .entry)) .areas .items ⌝ }
+    ensures { λ _. ⌜ now (ends .exit)
+        ≡ appended builder (lent (now (items .entry)) (now (ends .entry)) (now (flags .entry)) (now (counts .entry)) (now (keys .entry)) (now (lens .entry)))
+        (not (eqb present 0)) value (now (item .entry)) .areas .ends ⌝ }
+    ensures { λ _. ⌜ now (flags .exit)
+        ≡ appended builder (lent (now (items .entry)) (now (ends .entry)) (now (flags .entry)) (now (counts .entry)) (now (keys .entry)) (now (lens .entry)))
+        (not (eqb present 0)) value (now (item .entry)) .areas .flags ⌝ }
+    ensures { λ _. ⌜ now (counts .exit)
+        ≡ appended builder (lent (now (items .entry)) (now (ends .entry)) (now (flags .entry)) (now (counts .entry)) (now (keys .entry)) (now (lens .entry)))
+        (not (eqb present 0)) value (now (item .entry)) .areas .counts ⌝ }
+    ensures { λ _. ⌜ now (keys .exit)
+        ≡ appended builder (lent (now (items .entry)) (now (ends .entry)) (now (flags .entry)) (now (counts .entry)) (now (keys .entry)) (now (lens .entry)))
+        (not (eqb present 0)) value (now (item .entry)) .areas .keys ⌝ }
+    ensures { λ _. ⌜ now (lens .exit)
+        ≡ appended builder (lent (now (items .entry)) (now (ends .entry)) (now (flags .entry)) (now (counts .entry)) (now (keys .entry)) (now (lens .entry)))
+        (not (eqb present 0)) value (now (item .entry)) .areas .lens ⌝ }
 {
     let there = is_present(present);
     builder.append(items, ends, flags, counts, keys, lens, there, value, item)
@@ -99,8 +101,12 @@ pub extern "C" fn idz_finish(
     lens: &[u8],
     out: &mut [u8],
 ) -> Finished
-    ensures { λ r. ⌜ r ≡ finished builder (areas (now (items .entry)) (now (ends .entry)) (now (flags .entry)) (now (counts .entry)) (now (keys .entry)) (now (lens .entry))) (now (out .entry)) .answer ⌝ }
-    ensures { λ _. ⌜ now (out .exit) ≡ finished builder (areas (now (items .entry)) (now (ends .entry)) (now (flags .entry)) (now (counts .entry)) (now (keys .entry)) (now (lens .entry))) (now (out .entry)) .out ⌝ }
+    ensures { λ r. ⌜ r
+        ≡ finished builder (lent (now (items .entry)) (now (ends .entry)) (now (flags .entry)) (now (counts .entry)) (now (keys .entry)) (now (lens .entry)))
+        (now (out .entry)) .answer ⌝ }
+    ensures { λ _. ⌜ now (out .exit)
+        ≡ finished builder (lent (now (items .entry)) (now (ends .entry)) (now (flags .entry)) (now (counts .entry)) (now (keys .entry)) (now (lens .entry)))
+        (now (out .entry)) .out ⌝ }
 {
     builder.finish(items, ends, flags, counts, keys, lens, out)
 }

@@ -4,40 +4,11 @@ mod building;
 
 use block::Given;
 use block::Left;
-use block::Opened;
+use block::Opening;
 use block::Reader;
 use block::Skipped;
 ghost use mathlib.Core.Path.{_≡_};
-ghost use Rattle.block.specs.Reading.{opened, skipped, remaining, batched, areas};
-ghost use Rattle.capi.specs.Answers.{noReader, openingOf};
-
-// What opening answers: 0 and a reader, or a refusal and the record that every call refuses.
-#[repr(C)]
-pub struct Opening {
-    pub number: u8,
-    pub reader: Reader,
-}
-
-// The record beside a refused opening: no kind has this number, so that nobody reads a bad column as an empty one.
-fn no_reader() -> Reader
-    ensures { λ r. ⌜ r ≡ noReader ⌝ }
-{
-    Reader {
-        kind: 255,
-        encoding: 0,
-        width: 0,
-        rows: 0,
-        len: 0,
-        runs: 0,
-        counts: 0,
-        keys: 0,
-        entries: 0,
-        place: 0,
-        run: 0,
-        at: 0,
-        taken: 0,
-    }
-}
+ghost use Rattle.block.specs.Reading.{opened, openingOf, skipped, remaining, batched, areas};
 
 // Opens a block of `rows` rows.
 #[no_mangle]
@@ -50,14 +21,7 @@ pub extern "C" fn idz_open(
 ) -> Opening
     ensures { λ r. ⌜ r ≡ openingOf (opened kind encoding width rows (now (bytes .entry))) ⌝ }
 {
-    let answer = block::open(kind, encoding, width, rows, bytes);
-    match answer {
-        Opened::Open(reader) => Opening { number: 0, reader },
-        Opened::Refused(number) => Opening {
-            number,
-            reader: no_reader(),
-        },
-    }
+    block::open_by_number(kind, encoding, width, rows, bytes)
 }
 
 // Reads up to `size` rows.

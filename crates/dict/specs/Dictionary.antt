@@ -10,6 +10,8 @@ use Rattle.encode.specs.declared.Primitive.{Primitive}
 use Rattle.encode.specs.declared.Primitive.the-variants.{I32}
 use Rattle.encode.specs.declared.Kind.{Kind}
 use Rattle.encode.specs.declared.Kind.the-variants.{Fixed}
+use Rattle.limits.specs.Limits.{MOST_ENTRIES}
+use Rattle.limits.specs.Refusals.{CUT, KEY, LIMIT}
 use Rattle.plain.specs.Rows.{Row, null, int, bytes, intIn, same}
 use Rattle.plain.specs.Rules.{_if_, firstOf}
 use Rattle.plain.specs.Plain.{places, plainOf, plainNumber, plainRow, endsGood}
@@ -82,14 +84,14 @@ known entries keys [] = true
 known entries keys (i ∷ is) = leb (slotAt keys i) entries && known entries keys is
 
 unfoldable pub keysNumber : ℕ → List ℕ → ℕ
-keysNumber entries b = 15 if not (known entries (innerPart (countsLength b) b) (places (runsIn b) 0))
+keysNumber entries b = KEY if not (known entries (innerPart (countsLength b) b) (places (runsIn b) 0))
 
 unfoldable pub dictionaryNumber : Kind → ℕ → List ℕ → ℕ
 dictionaryNumber k n b =
     firstOf (
-    10 if ltb (length b) 12
-    ∷ 3 if ltb 65536 (entriesIn b)
-    ∷ 10 if ltb (length b) (12 + keyLength b)
+    CUT if ltb (length b) 12
+    ∷ LIMIT if ltb MOST_ENTRIES (entriesIn b)
+    ∷ CUT if ltb (length b) (12 + keyLength b)
     ∷ runLengthNumber (plainNumber i32) n (keyPart (keyLength b) b)
     ∷ keysNumber (entriesIn b) (keyPart (keyLength b) b)
     ∷ plainNumber k (entriesIn b) (entriesPart (keyLength b) b)

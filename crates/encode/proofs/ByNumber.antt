@@ -2,6 +2,7 @@
 use mathlib.Core.Path.{_≡_, ap, _∙_, sym}
 use Prim.Native.Nat.{ℕ, _≤_, _<_}
 use borrow.Author.Tests.{lt-ltb, le-ltb, eq-eqb, ne-eqb}
+use Rattle.limits.specs.Limits.{MOST_WIDTH}
 use Rattle.encode.specs.Kinds.{numbered, kindOf}
 use Rattle.encode.specs.declared.Kind.the-variants.{Char}
 use Rattle.encode.specs.declared.FoundKind.the-variants.{Known, Unknown}
@@ -12,13 +13,13 @@ numbers j i {k} {w} p q = ap (λ (x : ℕ). kindOf x i) (sym p) ∙ ap (kindOf k
 
 -- a char's width
 module _ (k w : ℕ) (is : k ≡ 8) (some : w ≡ 0 → ⊥) where
-  pub char-above : 255 < w → Unknown ≡ kindOf k w
+  pub char-above : MOST_WIDTH < w → Unknown ≡ kindOf k w
   unfolding kindOf
-  char-above h = simp (eq-eqb k 8 is, ne-eqb w 0 some, lt-ltb 255 w h)
+  char-above h = simp (eq-eqb k 8 is, ne-eqb w 0 some, lt-ltb MOST_WIDTH w h)
 
-  pub char-within : w ≤ 255 → Known (Char w) ≡ kindOf k w
+  pub char-within : w ≤ MOST_WIDTH → Known (Char w) ≡ kindOf k w
   unfolding kindOf
-  char-within h = simp (eq-eqb k 8 is, ne-eqb w 0 some, le-ltb 255 w h)
+  char-within h = simp (eq-eqb k 8 is, ne-eqb w 0 some, le-ltb MOST_WIDTH w h)
 
 -- no char
 module _ (k w : ℕ) (other : k ≡ 8 → ⊥) where

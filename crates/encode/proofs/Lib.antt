@@ -4,4 +4,4 @@ pub mod Cells
 pub mod ByKind
 pub mod ByNumber
 pub mod RoundTrip
-pub mod Widths
+pub mod Shapes

@@ -19,9 +19,11 @@ use mir.Val.{SFits, ofZ, toZ, bits, hbits, bytes}
 use mir.ValLaws.{half-full, pow-bits}
 use mir.Facts.{toZ-ofZ, fits-ofZ}
 use Rattle.encode.specs.Bytes.{Order, low-first, high-first, little, big, bytesOf, number, numberOf, inEight}
-use Rattle.encode.specs.Kinds.{Reading, truth, signed, layoutOf, widthOf, trueOrFalse, numberAs, zeroOrOne, takesAs, encoded, decoded, takes}
+use Rattle.encode.specs.Kinds.{Reading, truth, signed, shapeOf, laidAs, layoutOf, widthOf, trueOrFalse, numberAs, zeroOrOne, takesAs, encoded, decoded, takes}
 use Rattle.encode.specs.declared.Primitive.{Primitive}
-use Rattle.encode.specs.declared.Primitive.the-variants.{Bool as Boolean, I16, I32, I64, Date, Timestamp, TimestampTz, Interval}
+use Rattle.encode.specs.declared.Primitive.the-variants.{Interval}
+use Rattle.encode.specs.declared.Shape.{Shape}
+use Rattle.encode.specs.declared.Shape.the-variants.{Bool as BoolShape, Low2, Low4, Low8, High4, High8}
 
 -- ---- over the width and the order
 
@@ -106,18 +108,16 @@ layout-trip w o signed h v t =
 
 -- ---- every kind
 
-within-64 : (p : Primitive) → bits (layoutOf p .size) ≤ 64
-within-64 Boolean = lit≤ tt
-within-64 I16 = lit≤ tt
-within-64 I32 = lit≤ tt
-within-64 I64 = lit≤ tt
-within-64 Date = lit≤ tt
-within-64 Timestamp = lit≤ tt
-within-64 TimestampTz = lit≤ tt
-within-64 Interval = lit≤ tt
+within-64 : (s : Shape) → bits (laidAs s .size) ≤ 64
+within-64 BoolShape = lit≤ tt
+within-64 Low2 = lit≤ tt
+within-64 Low4 = lit≤ tt
+within-64 Low8 = lit≤ tt
+within-64 High4 = lit≤ tt
+within-64 High8 = lit≤ tt
 
 pub round-trip : (p : Primitive) (v : ℤ) → takes p v ≡ true → decoded p (encoded p v) ≡ v
-round-trip p v t = layout-trip (layoutOf p .size) (layoutOf p .order) (layoutOf p .reading) (within-64 p) v t
+round-trip p v t = layout-trip (layoutOf p .size) (layoutOf p .order) (layoutOf p .reading) (within-64 (shapeOf p)) v t
 
 pub item-length : (p : Primitive) (v : ℤ) → length (encoded p v) ≡ widthOf p
 item-length p v = length-bytes (layoutOf p .order) (widthOf p) (ofZ w64 v)

@@ -8,15 +8,18 @@ use lib.IntN.{ℤ, pos, negsuc}
 use lib.Signed.{mag}
 use mir.Syntax.{Width, w8, w16, w32, w64}
 use mir.Val.{ofZ, toZ, bytes, hbits}
+use Rattle.limits.specs.Limits.{MOST_WIDTH}
 use Rattle.encode.specs.Bytes.{Order, low-first, high-first, bytesOf, numberOf}
 use Rattle.encode.specs.declared.Primitive.{Primitive}
 use Rattle.encode.specs.declared.Primitive.the-variants.{Bool as Boolean, I16, I32, I64, Date, Timestamp, TimestampTz, Interval}
+use Rattle.encode.specs.declared.Shape.{Shape}
+use Rattle.encode.specs.declared.Shape.the-variants.{Bool as BoolShape, Low2, Low4, Low8, High4, High8}
 use Rattle.encode.specs.declared.Kind.{Kind}
 use Rattle.encode.specs.declared.Kind.the-variants.{Fixed, Char, Blob}
 use Rattle.encode.specs.declared.FoundKind.{FoundKind}
 use Rattle.encode.specs.declared.FoundKind.the-variants.{Known, Unknown}
 
--- ---- the fixed kinds: one table
+-- ---- the fixed kinds: a table of the shapes that items have, and one of the kinds
 pub data Reading : Type 0 where
   truth signed : Reading
 
@@ -28,15 +31,26 @@ pub record Layout : Type 0 where
 abbrev pub lays : Width → Order → Reading → Layout
 lays w o r = record { size = w; order = o; reading = r }
 
+abbrev pub laidAs : Shape → Layout
+laidAs BoolShape = lays w8 low-first truth
+laidAs Low2 = lays w16 low-first signed
+laidAs Low4 = lays w32 low-first signed
+laidAs Low8 = lays w64 low-first signed
+laidAs High4 = lays w32 high-first signed
+laidAs High8 = lays w64 high-first signed
+
+abbrev pub shapeOf : Primitive → Shape
+shapeOf Boolean = BoolShape
+shapeOf I16 = Low2
+shapeOf I32 = Low4
+shapeOf I64 = Low8
+shapeOf Date = High4
+shapeOf Timestamp = High8
+shapeOf TimestampTz = High8
+shapeOf Interval = High8
+
 abbrev pub layoutOf : Primitive → Layout
-layoutOf Boolean = lays w8 low-first truth
-layoutOf I16 = lays w16 low-first signed
-layoutOf I32 = lays w32 low-first signed
-layoutOf I64 = lays w64 low-first signed
-layoutOf Date = lays w32 high-first signed
-layoutOf Timestamp = lays w64 high-first signed
-layoutOf TimestampTz = lays w64 high-first signed
-layoutOf Interval = lays w64 high-first signed
+layoutOf p = laidAs (shapeOf p)
 
 abbrev pub widthOf : Primitive → ℕ
 widthOf p = bytes (layoutOf p .size)
@@ -94,5 +108,5 @@ numbered k =
 
 unfoldable pub kindOf : ℕ → ℕ → FoundKind
 kindOf k w =
-    cond (eqb k 8) (cond (eqb w 0) Unknown (cond (ltb 255 w) Unknown (Known (Char w))))
+    cond (eqb k 8) (cond (eqb w 0) Unknown (cond (ltb MOST_WIDTH w) Unknown (Known (Char w))))
     (cond (eqb w 0) (numbered k) Unknown)

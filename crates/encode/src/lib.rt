@@ -1,5 +1,15 @@
 // The fixed kinds, as encode.rs has them: a type for each with its width, its default, encode and decode. A value is
 // carried as an i64. An encoded item is passed whole, as eight bytes of which the unused ones are 0.
+mod fixed;
+
+pub use fixed::BoolKind;
+pub use fixed::DateKind;
+pub use fixed::I16Kind;
+pub use fixed::I32Kind;
+pub use fixed::I64Kind;
+pub use fixed::IntervalKind;
+pub use fixed::TimestampKind;
+pub use fixed::TimestampTzKind;
 ghost use mathlib.Core.Path.{_≡_};
 ghost use Prim.Native.Nat.{_+_, _*_, _<_, _^_};
 ghost use mir.Syntax.{w16, w32, w64};
@@ -7,7 +17,7 @@ ghost use mir.Val.{ofZ, toZ};
 ghost use lib.Signed.{mag};
 ghost use lib.ListN.{take};
 ghost use Rattle.encode.specs.Bytes.{low-first, high-first, little, big, inEight, numberOf};
-ghost use Rattle.encode.specs.Kinds.{widthOf, defaultValue, encoded, decoded, takes as taken, kindOf};
+ghost use Rattle.encode.specs.Kinds.{shapeOf, widthOf, defaultValue, encoded, decoded, takes as taken, kindOf};
 
 // The kinds of fixed width: bool, i16, i32, i64, Date, Timestamp, TimestampTz and Interval.
 pub enum Primitive {
@@ -19,6 +29,17 @@ pub enum Primitive {
     Timestamp,
     TimestampTz,
     Interval,
+}
+
+// How the items of a fixed kind are laid out, which kinds may share: a bool's byte; two, four or eight bytes, lowest first; four or
+// eight, highest first.
+pub enum Shape {
+    Bool,
+    Low2,
+    Low4,
+    Low8,
+    High4,
+    High8,
 }
 
 // Every kind. A char has a width of 1 to 255.
@@ -217,226 +238,24 @@ pub fn high8(item: [u8; 8]) -> u64
         + 0x1_0000_0000 * quad(item[3], item[2], item[1], item[0])
 }
 
-// ---- the kinds as types
-
-// bool: one byte, 0 or 1; any nonzero byte reads as true.
-pub struct BoolKind {}
-
-impl BoolKind {
-    pub const WIDTH: usize = 1;
-
-    pub const DEFAULT_VALUE: i64 = 0;
-
-    pub fn encode(v: i64) -> [u8; 8]
-        ensures { λ r. ⌜ r ≡ inEight (encoded Primitive.Bool v) ⌝ }
-    {
-        low_first1(bits_of(v))
-    }
-
-    pub fn decode(item: [u8; 8]) -> i64
-        ensures { λ r. ⌜ r ≡ decoded Primitive.Bool (take 1 item) ⌝ }
-    {
-        if item[0] == 0 { 0 } else { 1 }
-    }
-
-    pub fn takes(v: i64) -> bool
-        ensures { λ r. ⌜ r ≡ taken Primitive.Bool v ⌝ }
-    {
-        bits_of(v) < 2
-    }
-}
-
-// i16, little-endian.
-pub struct I16Kind {}
-
-impl I16Kind {
-    pub const WIDTH: usize = 2;
-
-    pub const DEFAULT_VALUE: i64 = 0;
-
-    pub fn encode(v: i64) -> [u8; 8]
-        ensures { λ r. ⌜ r ≡ inEight (encoded Primitive.I16 v) ⌝ }
-    {
-        low_first2(bits_of(v))
-    }
-
-    pub fn decode(item: [u8; 8]) -> i64
-        ensures { λ r. ⌜ r ≡ decoded Primitive.I16 (take 2 item) ⌝ }
-    {
-        of_bits16(low2(item))
-    }
-
-    pub fn takes(v: i64) -> bool
-        ensures { λ r. ⌜ r ≡ taken Primitive.I16 v ⌝ }
-    {
-        mag_of(v) < 0x8000
-    }
-}
-
-// i32, little-endian.
-pub struct I32Kind {}
-
-impl I32Kind {
-    pub const WIDTH: usize = 4;
-
-    pub const DEFAULT_VALUE: i64 = 0;
-
-    pub fn encode(v: i64) -> [u8; 8]
-        ensures { λ r. ⌜ r ≡ inEight (encoded Primitive.I32 v) ⌝ }
-    {
-        low_first4(bits_of(v))
-    }
-
-    pub fn decode(item: [u8; 8]) -> i64
-        ensures { λ r. ⌜ r ≡ decoded Primitive.I32 (take 4 item) ⌝ }
-    {
-        of_bits32(low4(item))
-    }
-
-    pub fn takes(v: i64) -> bool
-        ensures { λ r. ⌜ r ≡ taken Primitive.I32 v ⌝ }
-    {
-        mag_of(v) < 0x8000_0000
-    }
-}
-
-// i64, little-endian.
-pub struct I64Kind {}
-
-impl I64Kind {
-    pub const WIDTH: usize = 8;
-
-    pub const DEFAULT_VALUE: i64 = 0;
-
-    pub fn encode(v: i64) -> [u8; 8]
-        ensures { λ r. ⌜ r ≡ inEight (encoded Primitive.I64 v) ⌝ }
-    {
-        low_first(bits_of(v))
-    }
-
-    pub fn decode(item: [u8; 8]) -> i64
-        ensures { λ r. ⌜ r ≡ decoded Primitive.I64 (take 8 item) ⌝ }
-    {
-        of_bits(low8(item))
-    }
-
-    pub fn takes(v: i64) -> bool
-        ensures { λ r. ⌜ r ≡ taken Primitive.I64 v ⌝ }
-    {
-        mag_of(v) < 0x8000_0000_0000_0000
-    }
-}
-
-// Days as an i32, big-endian.
-pub struct DateKind {}
-
-impl DateKind {
-    pub const WIDTH: usize = 4;
-
-    pub const DEFAULT_VALUE: i64 = 0;
-
-    pub fn encode(v: i64) -> [u8; 8]
-        ensures { λ r. ⌜ r ≡ inEight (encoded Primitive.Date v) ⌝ }
-    {
-        high_first4(bits_of(v))
-    }
-
-    pub fn decode(item: [u8; 8]) -> i64
-        ensures { λ r. ⌜ r ≡ decoded Primitive.Date (take 4 item) ⌝ }
-    {
-        of_bits32(high4(item))
-    }
-
-    pub fn takes(v: i64) -> bool
-        ensures { λ r. ⌜ r ≡ taken Primitive.Date v ⌝ }
-    {
-        mag_of(v) < 0x8000_0000
-    }
-}
-
-// Microseconds as an i64, big-endian.
-pub struct TimestampKind {}
-
-impl TimestampKind {
-    pub const WIDTH: usize = 8;
-
-    pub const DEFAULT_VALUE: i64 = 0;
-
-    pub fn encode(v: i64) -> [u8; 8]
-        ensures { λ r. ⌜ r ≡ inEight (encoded Primitive.Timestamp v) ⌝ }
-    {
-        high_first(bits_of(v))
-    }
-
-    pub fn decode(item: [u8; 8]) -> i64
-        ensures { λ r. ⌜ r ≡ decoded Primitive.Timestamp (take 8 item) ⌝ }
-    {
-        of_bits(high8(item))
-    }
-
-    pub fn takes(v: i64) -> bool
-        ensures { λ r. ⌜ r ≡ taken Primitive.Timestamp v ⌝ }
-    {
-        mag_of(v) < 0x8000_0000_0000_0000
-    }
-}
-
-// The same with a time zone.
-pub struct TimestampTzKind {}
-
-impl TimestampTzKind {
-    pub const WIDTH: usize = 8;
-
-    pub const DEFAULT_VALUE: i64 = 0;
-
-    pub fn encode(v: i64) -> [u8; 8]
-        ensures { λ r. ⌜ r ≡ inEight (encoded Primitive.TimestampTz v) ⌝ }
-    {
-        high_first(bits_of(v))
-    }
-
-    pub fn decode(item: [u8; 8]) -> i64
-        ensures { λ r. ⌜ r ≡ decoded Primitive.TimestampTz (take 8 item) ⌝ }
-    {
-        of_bits(high8(item))
-    }
-
-    pub fn takes(v: i64) -> bool
-        ensures { λ r. ⌜ r ≡ taken Primitive.TimestampTz v ⌝ }
-    {
-        mag_of(v) < 0x8000_0000_0000_0000
-    }
-}
-
-// Months, then days, each an i32, big-endian; carried as months times 2^32 plus days modulo 2^32.
-pub struct IntervalKind {}
-
-impl IntervalKind {
-    pub const WIDTH: usize = 8;
-
-    pub const DEFAULT_VALUE: i64 = 0;
-
-    pub fn encode(v: i64) -> [u8; 8]
-        ensures { λ r. ⌜ r ≡ inEight (encoded Primitive.Interval v) ⌝ }
-    {
-        high_first(bits_of(v))
-    }
-
-    pub fn decode(item: [u8; 8]) -> i64
-        ensures { λ r. ⌜ r ≡ decoded Primitive.Interval (take 8 item) ⌝ }
-    {
-        of_bits(high8(item))
-    }
-
-    pub fn takes(v: i64) -> bool
-        ensures { λ r. ⌜ r ≡ taken Primitive.Interval v ⌝ }
-    {
-        mag_of(v) < 0x8000_0000_0000_0000
-    }
-}
-
 // The kind's own function, looked up.
 impl Primitive {
+    // The layout of its items: code that asks for no more than that goes by the shapes.
+    pub fn shape(self) -> Shape
+        ensures { λ r. ⌜ r ≡ shapeOf self ⌝ }
+    {
+        match self {
+            Primitive::Bool => Shape::Bool,
+            Primitive::I16 => Shape::Low2,
+            Primitive::I32 => Shape::Low4,
+            Primitive::I64 => Shape::Low8,
+            Primitive::Date => Shape::High4,
+            Primitive::Timestamp => Shape::High8,
+            Primitive::TimestampTz => Shape::High8,
+            Primitive::Interval => Shape::High8,
+        }
+    }
+
     pub fn width(self) -> usize
         ensures { λ r. ⌜ r ≡ widthOf self ⌝ }
     {
@@ -522,7 +341,7 @@ pub fn kind_of(kind: usize, width: usize) -> FoundKind
         if width == 0 {
             return FoundKind::Unknown;
         }
-        if 255 < width {
+        if limits::MOST_WIDTH < width {
             return FoundKind::Unknown;
         }
         return FoundKind::Known(Kind::Char(width as u8));

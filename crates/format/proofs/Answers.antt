@@ -5,7 +5,7 @@ use mathlib.Core.List.{List, [], _∷_}
 use mathlib.Core.Path.{_≡_, refl}
 use Rattle.plain.specs.Rules.{firstOf}
 use Rattle.format.specs.declared.Found.the-variants.{Sound, Refused}
-use Rattle.format.specs.Opening.{Head}
+use Rattle.format.specs.declared.Head.{Head}
 use Rattle.format.specs.Found.{foundBy}
 
 -- ---- rules
@@ -37,23 +37,14 @@ unfolding foundBy
 refused-by zero h n = absurd (n refl)
 refused-by (suc e) h n = refl
 
-pub sound-by : (h : Head) → Sound (h .runs) (h .counts) (h .keys) (h .entries) ≡ foundBy 0 h
+pub sound-by : (h : Head) → Sound h ≡ foundBy 0 h
 unfolding foundBy
 sound-by h = refl
 
 -- what the answer tells of the number
-pub record Told (number : ℕ) (h : Head) (runs counts keys entries : ℕ) : Type 0 where
-  pub none : number ≡ 0
-  pub runs-found : runs ≡ h .runs
-  pub counts-found : counts ≡ h .counts
-  pub keys-found : keys ≡ h .keys
-  pub entries-found : entries ≡ h .entries
-
-pub found-sound :
-    (number : ℕ) (h : Head) {runs counts keys entries : ℕ} → Sound runs counts keys entries ≡ foundBy number h
-    → Told number h runs counts keys entries
+pub found-sound : (number : ℕ) (h : Head) {g : Head} → Sound g ≡ foundBy number h → (number ≡ 0) × (g ≡ h)
 unfolding foundBy
-found-sound zero h q = record { none = refl; runs-found = cc; counts-found = cc; keys-found = cc; entries-found = cc }
+found-sound zero h q = (refl, cc)
 found-sound (suc e) h q = let z : _≡_ {A = ℕ} 0 1 = cc in absurd (omega arith)
 
 pub found-refused : (number : ℕ) (h : Head) {e : ℕ} → Refused e ≡ foundBy number h → (number ≡ e) × (0 < e)

@@ -3,6 +3,7 @@ use Prim.Native.Nat.{ℕ, _≤_}
 use mathlib.Core.Bool.{true, false}
 use mathlib.Core.List.{List}
 use mathlib.Core.Path.{_≡_, sym, subst}
+use Rattle.limits.specs.Limits.{MOST_ITEMS}
 use Rattle.encode.specs.declared.Kind.{Kind}
 use Rattle.plain.specs.Plain.{plainNumber}
 use Rattle.nullable.specs.Nullable.{nullableNumber}
@@ -44,10 +45,10 @@ module _ (k : Kind) {e : Encoding} (n : ℕ) (b : List ℕ) {r : Found} where
   dictionary-found q p = same Dictionary q p
 
 -- ---- where every row is a stored item, rows have the limit of items
-pub plain-rows : {e : Encoding} {n : ℕ} → e ≡ Plain → n ≤ mostRows e → n ≤ 1048576
+pub plain-rows : {e : Encoding} {n : ℕ} → e ≡ Plain → n ≤ mostRows e → n ≤ MOST_ITEMS
 unfolding mostRows
 plain-rows {e} {n} q h = subst (λ (x : Encoding). n ≤ mostRows x) q h
 
-pub nullable-rows : {e : Encoding} {n : ℕ} → e ≡ Nullable → n ≤ mostRows e → n ≤ 1048576
+pub nullable-rows : {e : Encoding} {n : ℕ} → e ≡ Nullable → n ≤ mostRows e → n ≤ MOST_ITEMS
 unfolding mostRows
 nullable-rows {e} {n} q h = subst (λ (x : Encoding). n ≤ mostRows x) q h

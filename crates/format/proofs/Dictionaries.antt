@@ -5,17 +5,20 @@ use mathlib.Core.List.{List, [], _∷_}
 use mathlib.Core.Path.{_≡_, sym, _∙_}
 use lib.ListN.{length, take, drop}
 use borrow.Author.Tests.{lt-ltb, le-ltb}
+use Rattle.limits.specs.Refusals.{LIMIT, CUT}
+use Rattle.limits.specs.Limits.{MOST_ENTRIES}
 use Rattle.encode.specs.declared.Kind.{Kind}
 use Rattle.plain.specs.Rules.{firstOf}
 use Rattle.plain.specs.Plain.{plainNumber}
 use Rattle.rle.specs.RunLength.{runLengthNumber}
 use Rattle.dict.specs.Dictionary.{i32, keyLength, entriesIn, keyPart, entriesPart, keysNumber, dictionaryNumber}
 use Rattle.format.specs.declared.Encoding.the-variants.{Dictionary}
+use Rattle.format.specs.declared.Head.{Head}
 use Rattle.format.specs.declared.Found.{Found}
 use Rattle.format.specs.declared.Found.the-variants.{Sound, Refused}
-use Rattle.format.specs.Opening.{headOf}
+use Rattle.format.specs.Opening.{head, headOf}
 use Rattle.format.specs.Found.{foundBy, runsHead, keyBlockNumber}
-use Rattle.format.proofs.Answers.{first-one, broken-first, kept-first, two-first, refused-by, sound-by, Told, found-sound, found-refused}
+use Rattle.format.proofs.Answers.{first-one, broken-first, kept-first, two-first, refused-by, sound-by, found-sound, found-refused}
 use Rattle.format.proofs.RunBlocks.{rest-of}
 
 module _ (k : Kind) (n : ℕ) (b : List ℕ) where
@@ -25,21 +28,21 @@ module _ (k : Kind) (n : ℕ) (b : List ℕ) where
   refused : (e : ℕ) → (e ≡ 0 → ⊥) → dictionaryNumber k n b ≡ e → Refused e ≡ answer
   refused e l h = rw h (refused-by e (headOf Dictionary b) l)
 
-  pub too-short : length b < 12 → Refused 10 ≡ answer
+  pub too-short : length b < 12 → Refused CUT ≡ answer
   unfolding dictionaryNumber firstOf
-  too-short h = refused 10 (λ z. omega arith) (simp (lt-ltb (length b) 12 h))
+  too-short h = refused CUT (λ z. omega arith) (simp (lt-ltb (length b) 12 h))
 
   module _ (h0 : 12 ≤ length b) {entries : ℕ} (e1 : entries ≡ entriesIn b) where
-    pub too-many : 65536 < entries → Refused 3 ≡ answer
+    pub too-many : MOST_ENTRIES < entries → Refused LIMIT ≡ answer
     unfolding dictionaryNumber firstOf
-    too-many h = refused 3 (λ z. omega arith) (rw (← e1) (simp (le-ltb (length b) 12 h0, lt-ltb 65536 entries h)))
+    too-many h = refused LIMIT (λ z. omega arith) (rw (← e1) (simp (le-ltb (length b) 12 h0, lt-ltb MOST_ENTRIES entries h)))
 
-    module _ (h1 : entries ≤ 65536) {keys : ℕ} (e2 : keys ≡ keyLength b) where
-      pub cut-short : length b < 12 + keys → Refused 10 ≡ answer
+    module _ (h1 : entries ≤ MOST_ENTRIES) {keys : ℕ} (e2 : keys ≡ keyLength b) where
+      pub cut-short : length b < 12 + keys → Refused CUT ≡ answer
       unfolding dictionaryNumber firstOf
       cut-short h =
-          refused 10 (λ z. omega arith)
-          (rw (← e1, ← e2) (simp (le-ltb (length b) 12 h0, le-ltb 65536 entries h1, lt-ltb (length b) (12 + keys) h)))
+          refused CUT (λ z. omega arith)
+          (rw (← e1, ← e2) (simp (le-ltb (length b) 12 h0, le-ltb MOST_ENTRIES entries h1, lt-ltb (length b) (12 + keys) h)))
 
       -- the key block and the entries stand in their parts of the block
       module _ (h2 : 12 + keys ≤ length b) where
@@ -55,7 +58,7 @@ module _ (k : Kind) (n : ℕ) (b : List ℕ) where
         unfolding dictionaryNumber firstOf keyBlockNumber entriesPart
         number-is =
             rw (part-is, ← e1, ← e2)
-            (simp (le-ltb (length b) 12 h0, le-ltb 65536 entries h1, le-ltb (length b) (12 + keys) h2)
+            (simp (le-ltb (length b) 12 h0, le-ltb MOST_ENTRIES entries h1, le-ltb (length b) (12 + keys) h2)
             (two-first (runLengthNumber (plainNumber i32) n part) (keysNumber entries part) (plainNumber k entries (drop (12 + keys) b))))
 
         module _ {found : Found} (p : found ≡ foundBy (keyBlockNumber n entries part) (runsHead part)) where
@@ -66,23 +69,21 @@ module _ (k : Kind) (n : ℕ) (b : List ℕ) where
               let first = broken-first (keyBlockNumber n entries part) (plainNumber k entries (drop (12 + keys) b) ∷ []) l in
               q ∙ refused e (λ z. omega (arith, r .1)) (number-is ∙ first ∙ r .0)
 
-          module _ {runs counts x y : ℕ} (q : found ≡ Sound runs counts x y) where
-            told : Told (keyBlockNumber n entries part) (runsHead part) runs counts x y
+          module _ {h : Head} (q : found ≡ Sound h) where
+            told : (keyBlockNumber n entries part ≡ 0) × (h ≡ runsHead part)
             told = found-sound (keyBlockNumber n entries part) (runsHead part) (sym q ∙ p)
 
             module _ {r : ℕ} (i : r ≡ plainNumber k entries (take (length b - (12 + keys)) (drop (12 + keys) b))) where
               plain-is : dictionaryNumber k n b ≡ r
               plain-is =
                   number-is
-                  ∙ kept-first (plainNumber k entries (drop (12 + keys) b) ∷ []) (told .none)
+                  ∙ kept-first (plainNumber k entries (drop (12 + keys) b) ∷ []) (told .0)
                   ∙ first-one (plainNumber k entries (drop (12 + keys) b))
                   ∙ sym (rw rest-of at i)
 
               pub entries-wrong : (r ≡ 0 → ⊥) → Refused r ≡ answer
-              entries-wrong h = refused r h plain-is
+              entries-wrong e = refused r e plain-is
 
-              pub entries-right : r ≡ 0 → Sound runs counts keys entries ≡ answer
+              pub entries-right : r ≡ 0 → Sound (head (h .runs) (h .counts) keys entries) ≡ answer
               unfolding headOf runsHead
-              entries-right h =
-                  rw (plain-is, h)
-                  (rw (part-is, ← told .runs-found, ← told .counts-found, ← e1, ← e2) (sound-by _))
+              entries-right e = rw (plain-is, e) (rw (part-is, told .1, ← e1, ← e2) (sound-by _))

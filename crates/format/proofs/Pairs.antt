@@ -5,6 +5,7 @@ use mathlib.Core.Path.{_≡_, refl, sym, ap, _∙_}
 use borrow.Author.Tests.{ne-eqb}
 use types.Run.{OneOf, miss}
 use denote.Enum.Declared.{tagOf}
+use Rattle.limits.specs.Limits.{MOST_ROWS, MOST_ITEMS}
 use Rattle.encode.specs.declared.Kind.{Kind}
 use Rattle.encode.specs.declared.FoundKind.{FoundKind}
 use Rattle.encode.specs.declared.FoundKind.the-variants.{Known, Unknown as UnknownKind}
@@ -35,7 +36,7 @@ module _ (kind width : ℕ) {found : FoundKind} (p : found ≡ kindOf kind width
       w ∙ ap (λ (f : FoundKind). withEncoding f e) (sym q ∙ p)
 
 -- ---- the rows: the encodings that each arm names
-pub few-rows : (e : Encoding) → OneOf (0 ∷ 1 ∷ []) (tagOf the-type e) → 1048576 ≡ mostRows e
+pub few-rows : (e : Encoding) → OneOf (0 ∷ 1 ∷ []) (tagOf the-type e) → MOST_ITEMS ≡ mostRows e
 unfolding mostRows
 few-rows Plain h = refl
 few-rows Nullable h = refl
@@ -43,7 +44,7 @@ few-rows RunLength h = absurd (miss (0 ∷ 1 ∷ []) 2 tt h)
 few-rows RunLengthNullable h = absurd (miss (0 ∷ 1 ∷ []) 3 tt h)
 few-rows Dictionary h = absurd (miss (0 ∷ 1 ∷ []) 4 tt h)
 
-pub many-rows : (e : Encoding) → OneOf (2 ∷ 3 ∷ 4 ∷ []) (tagOf the-type e) → 281474976710655 ≡ mostRows e
+pub many-rows : (e : Encoding) → OneOf (2 ∷ 3 ∷ 4 ∷ []) (tagOf the-type e) → MOST_ROWS ≡ mostRows e
 unfolding mostRows
 many-rows Plain h = absurd (miss (2 ∷ 3 ∷ 4 ∷ []) 0 tt h)
 many-rows Nullable h = absurd (miss (2 ∷ 3 ∷ 4 ∷ []) 1 tt h)

@@ -5,8 +5,8 @@ use mathlib.Core.List.{List, [], _∷_}
 use mathlib.Core.Path.{_≡_, refl, sym, ap, _∙_}
 use lib.ListN.{length, take, drop, length-drop}
 use lib.Seq.{take-all}
-use Rattle.rle.specs.declared.Head.{Head}
-use Rattle.rle.specs.declared.Head.the-variants.{Empty, Runs, Refused as HeadRefused}
+use Rattle.rle.specs.declared.RunHead.{RunHead}
+use Rattle.rle.specs.declared.RunHead.the-variants.{Empty, Runs, Refused as HeadRefused}
 use Rattle.rle.specs.RunLength.{runsIn, countsLength, innerPart, runLengthNumber}
 use Rattle.rle.specs.Pieces.{headFound, numberBy}
 use Rattle.rle.proofs.Opening.{Sound as SoundHead, head-number, head-sound, head-empty, head-refused}
@@ -26,15 +26,15 @@ no-head [] h = refl
 no-head (x ∷ b) h = absurd (omega arith)
 
 pub head-right :
-    (n : ℕ) (b : List ℕ) {g : Head} {runs counts : ℕ} → g ≡ headFound n b → g ≡ Runs runs counts → SoundHead n b runs counts
+    (n : ℕ) (b : List ℕ) {g : RunHead} {runs counts : ℕ} → g ≡ headFound n b → g ≡ Runs runs counts → SoundHead n b runs counts
 head-right n b p q = head-sound n b (sym p ∙ q)
 
-module _ (inner : ℕ → List ℕ → ℕ) (n : ℕ) (b : List ℕ) {g : Head} (p : g ≡ headFound n b) where
+module _ (inner : ℕ → List ℕ → ℕ) (n : ℕ) (b : List ℕ) {g : RunHead} (p : g ≡ headFound n b) where
   abbrev answer : Found
   answer = foundBy (runLengthNumber inner n b) (runsHead b)
 
   -- the head was found to be so
-  number-is : {h : Head} → g ≡ h → runLengthNumber inner n b ≡ numberBy inner b h
+  number-is : {h : RunHead} → g ≡ h → runLengthNumber inner n b ≡ numberBy inner b h
   number-is q = head-number inner n b ∙ ap (numberBy inner b) (sym p ∙ q)
 
   pub no-block : g ≡ Empty → foundBy 0 (head 0 0 0 0) ≡ answer
@@ -56,6 +56,6 @@ module _ (inner : ℕ → List ℕ → ℕ) (n : ℕ) (b : List ℕ) {g : Head} 
       pub inner-wrong : (r ≡ 0 → ⊥) → Refused r ≡ answer
       inner-wrong h = rw inner-is (refused-by r (runsHead b) h)
 
-      pub inner-right : r ≡ 0 → Sound runs counts 0 0 ≡ answer
+      pub inner-right : r ≡ 0 → Sound (head runs counts 0 0) ≡ answer
       unfolding runsHead
       inner-right h = let s = head-right n b p q in rw (inner-is, h, s .runs-read, s .counts-read) (sound-by (runsHead b))

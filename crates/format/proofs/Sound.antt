@@ -8,14 +8,16 @@ use mathlib.Core.Path.{_≡_, refl, sym, ap, _∙_}
 use lib.Dec.{ltb}
 use lib.ListN.{length}
 use borrow.Author.Tests.{le-ltb, ltb-false, not-false}
+use Rattle.limits.specs.Refusals.{LIMIT, CUT, KEY}
+use Rattle.limits.specs.Limits.{MOST_ITEMS, MOST_ENTRIES, MOST_BYTES}
 use Rattle.encode.specs.declared.Kind.{Kind}
 use Rattle.plain.proofs.Rules.{kept, whole}
 use Rattle.plain.specs.Rules.{_if_, firstOf}
 use Rattle.plain.specs.Plain.{places, plainNumber}
 use Rattle.nullable.specs.Nullable.{nullableNumber}
 use Rattle.rle.specs.declared.Walked.the-variants.{Total}
-use Rattle.rle.specs.declared.Head.{Head}
-use Rattle.rle.specs.declared.Head.the-variants.{Empty, Runs, Refused}
+use Rattle.rle.specs.declared.RunHead.{RunHead}
+use Rattle.rle.specs.declared.RunHead.the-variants.{Empty, Runs, Refused}
 use Rattle.rle.specs.RunLength.{runsIn, countsLength, countsPart, innerPart, walked, runLengthNumber}
 use Rattle.rle.specs.Pieces.{headFound, numberBy}
 use Rattle.rle.proofs.Opening.{head-number, head-sound, head-empty, head-refused}
@@ -28,7 +30,7 @@ use Rattle.format.proofs.Answers.{first-one}
 
 -- ---- the limits, and the rules behind them
 pub record Within (k : Kind) (e : Encoding) (n : ℕ) (b : List ℕ) : Type 0 where
-  pub size : length b ≤ 16777216
+  pub size : length b ≤ MOST_BYTES
   pub most : n ≤ mostRows e
   pub rules : rulesOf k e n b ≡ 0
 
@@ -36,18 +38,18 @@ module _ (k : Kind) (e : Encoding) (n : ℕ) (b : List ℕ) where
   pub column-sound : columnNumber (Of k e) n b ≡ 0 → Within k e n b
   unfolding columnNumber
   column-sound h =
-      let x = kept (3 if ltb 16777216 (length b)) _ h in
-      let y = kept (3 if ltb (mostRows e) n) _ (x .1) in
+      let x = kept (LIMIT if ltb MOST_BYTES (length b)) _ h in
+      let y = kept (LIMIT if ltb (mostRows e) n) _ (x .1) in
       record {
-        size = ltb-false _ _ (whole 3 _ (omega arith) (x .0));
-        most = ltb-false _ _ (whole 3 _ (omega arith) (y .0));
+        size = ltb-false _ _ (whole LIMIT _ (omega arith) (x .0));
+        most = ltb-false _ _ (whole LIMIT _ (omega arith) (y .0));
         rules = sym (first-one (rulesOf k e n b)) ∙ y .1;
       }
 
   -- within the limits the rules give the number
-  pub column-rules : length b ≤ 16777216 → n ≤ mostRows e → columnNumber (Of k e) n b ≡ rulesOf k e n b
+  pub column-rules : length b ≤ MOST_BYTES → n ≤ mostRows e → columnNumber (Of k e) n b ≡ rulesOf k e n b
   unfolding columnNumber firstOf
-  column-rules l m = simp (le-ltb 16777216 (length b) l, le-ltb (mostRows e) n m) (first-one (rulesOf k e n b))
+  column-rules l m = simp (le-ltb MOST_BYTES (length b) l, le-ltb (mostRows e) n m) (first-one (rulesOf k e n b))
 
 -- ---- a run-length block: there is no block at all, or a head, the counts and an inner block
 pub record NoRuns (n : ℕ) (b : List ℕ) (runs counts : ℕ) : Type 0 where
@@ -62,7 +64,7 @@ pub record SomeRuns (inner : ℕ → List ℕ → ℕ) (b : List ℕ) (runs coun
   pub inside : inner runs (innerPart counts b) ≡ 0
 
 pub record SoundRuns (inner : ℕ → List ℕ → ℕ) (n : ℕ) (b : List ℕ) (runs counts : ℕ) : Type 0 where
-  pub many : runs ≤ 1048576
+  pub many : runs ≤ MOST_ITEMS
   pub sum : walked runs (countsPart counts b) ≡ Total n
   pub either : NoRuns n b runs counts ⊎ SomeRuns inner b runs counts
 
@@ -81,7 +83,7 @@ module _ (inner : ℕ → List ℕ → ℕ) (n : ℕ) where
   unfolding numberBy
   runs-sound b h = by (headFound n b) refl
     where
-      by : (g : Head) → headFound n b ≡ g → SoundRuns inner n b (runsIn b) (countsLength b)
+      by : (g : RunHead) → headFound n b ≡ g → SoundRuns inner n b (runsIn b) (countsLength b)
       by Empty e = let z = head-empty n b e in none-told b (z .0) (z .1)
       by (Refused x) e =
           let p = head-refused n b e in
@@ -95,7 +97,7 @@ module _ (inner : ℕ → List ℕ → ℕ) (n : ℕ) where
 
 -- ---- a dictionary block
 pub record SoundKeys (k : Kind) (n : ℕ) (b : List ℕ) (runs counts keys entries : ℕ) : Type 0 where
-  pub few : entries ≤ 65536
+  pub few : entries ≤ MOST_ENTRIES
   pub head-room : 12 + keys ≤ length b
   pub key-runs : SoundRuns (plainNumber i32) n (keyPart keys b) runs counts
   pub all-known : known entries (innerPart counts (keyPart keys b)) (places runs 0) ≡ true
@@ -105,21 +107,21 @@ pub record SoundKeys (k : Kind) (n : ℕ) (b : List ℕ) (runs counts keys entri
 pub keys-known :
     (entries : ℕ) (b : List ℕ) → keysNumber entries b ≡ 0 → known entries (innerPart (countsLength b) b) (places (runsIn b) 0) ≡ true
 unfolding keysNumber
-keys-known entries b h = not-false _ (whole 15 _ (omega arith) h)
+keys-known entries b h = not-false _ (whole KEY _ (omega arith) h)
 
 pub dictionary-sound :
     (k : Kind) (n : ℕ) (b : List ℕ) → dictionaryNumber k n b ≡ 0
     → SoundKeys k n b (runsIn (keyPart (keyLength b) b)) (countsLength (keyPart (keyLength b) b)) (keyLength b) (entriesIn b)
 unfolding dictionaryNumber
 dictionary-sound k n b h =
-    let x = kept (10 if ltb (length b) 12) _ h in
-    let y = kept (3 if ltb 65536 (entriesIn b)) _ (x .1) in
-    let z = kept (10 if ltb (length b) (12 + keyLength b)) _ (y .1) in
+    let x = kept (CUT if ltb (length b) 12) _ h in
+    let y = kept (LIMIT if ltb MOST_ENTRIES (entriesIn b)) _ (x .1) in
+    let z = kept (CUT if ltb (length b) (12 + keyLength b)) _ (y .1) in
     let u = kept (runLengthNumber (plainNumber i32) n (keyPart (keyLength b) b)) _ (z .1) in
     let v = kept (keysNumber (entriesIn b) (keyPart (keyLength b) b)) _ (u .1) in
     record {
-      few = ltb-false _ _ (whole 3 _ (omega arith) (y .0));
-      head-room = ltb-false _ _ (whole 10 _ (omega arith) (z .0));
+      few = ltb-false _ _ (whole LIMIT _ (omega arith) (y .0));
+      head-room = ltb-false _ _ (whole CUT _ (omega arith) (z .0));
       key-runs = runs-sound (plainNumber i32) n (keyPart (keyLength b) b) (u .0);
       all-known = keys-known (entriesIn b) (keyPart (keyLength b) b) (v .0);
       entries-inside = sym (first-one (plainNumber k (entriesIn b) (entriesPart (keyLength b) b))) ∙ v .1;

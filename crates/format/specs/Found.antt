@@ -10,10 +10,11 @@ use Rattle.rle.specs.RunLength.{runsIn, countsLength, runLengthNumber}
 use Rattle.dict.specs.Dictionary.{i32, keysNumber}
 use Rattle.format.specs.declared.Found.{Found}
 use Rattle.format.specs.declared.Found.the-variants.{Sound, Refused}
-use Rattle.format.specs.Opening.{Head, head}
+use Rattle.format.specs.declared.Head.{Head}
+use Rattle.format.specs.Opening.{head}
 
 unfoldable pub foundBy : ℕ → Head → Found
-foundBy zero h = Sound (h .runs) (h .counts) (h .keys) (h .entries)
+foundBy zero h = Sound h
 foundBy (suc e) h = Refused (suc e)
 
 -- the rules of an inner block

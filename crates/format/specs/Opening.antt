@@ -5,6 +5,8 @@ use mathlib.Core.Bool.{Bool, true, false}
 use mathlib.Core.List.{List, [], _∷_, map}
 use lib.Dec.{ltb}
 use lib.ListN.{length}
+use Rattle.limits.specs.Limits.{MOST_ROWS, MOST_ITEMS, MOST_BYTES}
+use Rattle.limits.specs.Refusals.{COLUMN, LIMIT}
 use Rattle.encode.specs.declared.Kind.{Kind}
 use Rattle.plain.specs.Rows.{Row}
 use Rattle.plain.specs.Rules.{_if_, firstOf}
@@ -16,6 +18,7 @@ use Rattle.format.specs.declared.Encoding.{Encoding}
 use Rattle.format.specs.declared.Encoding.the-variants.{Plain, Nullable, RunLength, RunLengthNullable, Dictionary}
 use Rattle.format.specs.declared.Column.{Column}
 use Rattle.format.specs.declared.Column.the-variants.{Of, Unknown}
+use Rattle.format.specs.declared.Head.{Head}
 use Rattle.format.specs.Blocks.{columnOf}
 
 -- ---- the number
@@ -28,27 +31,21 @@ rulesOf k Dictionary n b = dictionaryNumber k n b
 
 -- in encodings 0 and 1 every row is a stored item
 unfoldable pub mostRows : Encoding → ℕ
-mostRows Plain = 1048576
-mostRows Nullable = 1048576
-mostRows RunLength = 281474976710655
-mostRows RunLengthNullable = 281474976710655
-mostRows Dictionary = 281474976710655
+mostRows Plain = MOST_ITEMS
+mostRows Nullable = MOST_ITEMS
+mostRows RunLength = MOST_ROWS
+mostRows RunLengthNullable = MOST_ROWS
+mostRows Dictionary = MOST_ROWS
 
 unfoldable pub columnNumber : Column → ℕ → List ℕ → ℕ
-columnNumber Unknown n b = 1
-columnNumber (Of k e) n b = firstOf (3 if ltb 16777216 (length b) ∷ 3 if ltb (mostRows e) n ∷ rulesOf k e n b ∷ [])
+columnNumber Unknown n b = COLUMN
+columnNumber (Of k e) n b = firstOf (LIMIT if ltb MOST_BYTES (length b) ∷ LIMIT if ltb (mostRows e) n ∷ rulesOf k e n b ∷ [])
 
 unfoldable pub openNumber : ℕ → ℕ → ℕ → ℕ → List ℕ → ℕ
 openNumber kind encoding width n b = columnNumber (columnOf kind encoding width) n b
 
 -- ---- the rows
 -- the numbers at a block's head; those that its encoding lacks are 0
-pub record Head : Type 0 where
-  pub runs : ℕ
-  pub counts : ℕ
-  pub keys : ℕ
-  pub entries : ℕ
-
 abbrev pub head : ℕ → ℕ → ℕ → ℕ → Head
 head runs counts keys entries = record { runs = runs; counts = counts; keys = keys; entries = entries }
 

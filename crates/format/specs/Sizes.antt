@@ -4,6 +4,7 @@ use mathlib.Core.Bool.{Bool, true, false, not, _&&_, _||_}
 use mathlib.Core.List.{List, [], _∷_, _++_, map}
 use lib.Dec.{ltb, leb, eqb}
 use lib.ListN.{length}
+use Rattle.limits.specs.Limits.{MOST_ROWS, MOST_ITEMS, MOST_ENTRIES, MOST_BYTES}
 use Rattle.encode.specs.declared.Kind.{Kind}
 use Rattle.encode.specs.declared.Kind.the-variants.{Fixed, Char, Blob}
 use Rattle.encode.specs.Kinds.{widthOf}
@@ -90,10 +91,10 @@ storedEntries Dictionary rows = length (entriesOf rows)
 
 unfoldable pub withinLimits : Kind → Encoding → List Row → Bool
 withinLimits k e rows =
-    leb (length rows) 281474976710655
-    && leb (storedItems e rows) 1048576
-    && leb (storedEntries e rows) 65536
-    && leb (length (blockOf k e rows)) 16777216
+    leb (length rows) MOST_ROWS
+    && leb (storedItems e rows) MOST_ITEMS
+    && leb (storedEntries e rows) MOST_ENTRIES
+    && leb (length (blockOf k e rows)) MOST_BYTES
 
 -- a list is accepted, appended row by row, if each row fits its kind and each prefix stays within the limits
 unfoldable pub acceptedAfter : Kind → Encoding → List Row → List Row → Bool

@@ -2,10 +2,12 @@
 use encode::FoundKind;
 use encode::Kind;
 use encode::Primitive;
-use rle::Head;
+use limits::refusal;
+use rle::RunHead;
 ghost use mathlib.Core.Path.{_≡_};
 ghost use Prim.Native.Nat.{_≤_};
 ghost use lib.ListN.{length};
+ghost use Rattle.limits.specs.Limits.{MOST_BYTES, MOST_ITEMS};
 ghost use Rattle.rle.specs.RunLength.{runLengthNumber};
 ghost use Rattle.dict.specs.Dictionary.{dictionaryNumber};
 ghost use Rattle.format.specs.Blocks.{columnOf};
@@ -27,14 +29,19 @@ pub enum Column {
     Unknown,
 }
 
-// What a check finds: the numbers at the head of a sound block, 0 where its encoding has none; or the refusal.
+// The numbers at the head of a block: of its runs, of the bytes of their counts, of the bytes of its key block and of its entries. Those
+// that its encoding lacks are 0.
+#[repr(C)]
+pub struct Head {
+    pub runs: usize,
+    pub counts: usize,
+    pub keys: usize,
+    pub entries: usize,
+}
+
+// What a check finds: the head of a sound block, or the refusal.
 pub enum Found {
-    Sound {
-        runs: usize,
-        counts: usize,
-        keys: usize,
-        entries: usize,
-    },
+    Sound(Head),
     Refused(u8),
 }
 
@@ -76,8 +83,9 @@ pub fn most_rows(e: Encoding) -> usize
     ensures { λ r. ⌜ r ≡ mostRows e ⌝ }
 {
     match e {
-        Encoding::Plain | Encoding::Nullable => 1048576,
-        Encoding::RunLength | Encoding::RunLengthNullable | Encoding::Dictionary => 281474976710655,
+        Encoding::Plain | Encoding::Nullable => limits::MOST_ITEMS,
+        Encoding::RunLength | Encoding::RunLengthNullable | Encoding::Dictionary =>
+            limits::MOST_ROWS,
     }
 }
 
@@ -86,19 +94,19 @@ fn bare(number: u8) -> Found
     ensures { λ r. ⌜ r ≡ foundBy number (head 0 0 0 0) ⌝ }
 {
     if number == 0 {
-        return Found::Sound {
+        return Found::Sound(Head {
             runs: 0,
             counts: 0,
             keys: 0,
             entries: 0,
-        };
+        });
     }
     Found::Refused(number)
 }
 
 // The rules of an inner block of `n` items, plain or nullable.
 fn check_inner(kind: Kind, nullable: bool, n: usize, s: &[u8]) -> u8
-    requires { ⌜ n ≤ 1048576 ⌝ }
+    requires { ⌜ n ≤ MOST_ITEMS ⌝ }
     ensures { λ r. ⌜ r ≡ innerNumber nullable kind n (now (s .entry)) ⌝ }
 {
     if nullable {
@@ -109,99 +117,87 @@ fn check_inner(kind: Kind, nullable: bool, n: usize, s: &[u8]) -> u8
 
 // The rules of a run-length block over a plain or a nullable one.
 fn check_runs(kind: Kind, nullable: bool, rows: usize, s: &[u8]) -> Found
-    requires { ⌜ length (now s) ≤ 16777216 ⌝ }
+    requires { ⌜ length (now s) ≤ MOST_BYTES ⌝ }
     ensures { λ r. ⌜ r ≡ foundBy (runLengthNumber (innerNumber nullable kind) rows (now (s .entry))) (runsHead (now (s .entry))) ⌝ }
 {
     let head = rle::find_head(rows as u64, s);
     match head {
-        Head::Empty => bare(0),
-        Head::Refused(e) => Found::Refused(e),
-        Head::Runs { runs, counts } => {
+        RunHead::Empty => bare(0),
+        RunHead::Refused(e) => Found::Refused(e),
+        RunHead::Runs { runs, counts } => {
             let end = 8 + counts;
             let number = check_inner(kind, nullable, runs, &s[end..]);
             if number != 0 {
                 return Found::Refused(number);
             }
-            Found::Sound {
+            Found::Sound(Head {
                 runs,
                 counts,
                 keys: 0,
                 entries: 0,
-            }
+            })
         }
     }
 }
 
 // The rules of a dictionary's key block, and that each key is null or names one of `entries`.
 fn check_keys(rows: usize, s: &[u8], entries: usize) -> Found
-    requires { ⌜ length (now s) ≤ 16777216 ⌝ }
+    requires { ⌜ length (now s) ≤ MOST_BYTES ⌝ }
     ensures { λ r. ⌜ r ≡ foundBy (keyBlockNumber rows entries (now (s .entry))) (runsHead (now (s .entry))) ⌝ }
 {
     let found = check_runs(Kind::Fixed(Primitive::I32), false, rows, s);
-    let Found::Sound {
-        runs,
-        counts,
-        keys: _,
-        entries: _,
-    } = found
-    else {
+    let Found::Sound(head) = found else {
         return found;
     };
     // no runs, no keys
-    if runs == 0 {
+    if head.runs == 0 {
         return found;
     }
-    let end = 8 + counts;
-    if dict::known(&s[end..], runs, entries) {
+    let end = 8 + head.counts;
+    if dict::known(&s[end..], head.runs, entries) {
         return found;
     }
-    Found::Refused(15)
+    Found::Refused(refusal::KEY)
 }
 
 // The rules of a dictionary block.
 fn check_dictionary(kind: Kind, rows: usize, s: &[u8]) -> Found
-    requires { ⌜ length (now s) ≤ 16777216 ⌝ }
+    requires { ⌜ length (now s) ≤ MOST_BYTES ⌝ }
     ensures { λ r. ⌜ r ≡ foundBy (dictionaryNumber kind rows (now (s .entry))) (headOf Encoding.Dictionary (now (s .entry))) ⌝ }
 {
     let n = s.len();
     if n < 12 {
-        return Found::Refused(10);
+        return Found::Refused(refusal::CUT);
     }
     let entries = dict::entries_in(s);
-    if 65536 < entries {
-        return Found::Refused(3);
+    if limits::MOST_ENTRIES < entries {
+        return Found::Refused(refusal::LIMIT);
     }
     // 12 is taken off the length and not added to the key block's, which can be near 2^64
     let keys = dict::key_len(s) as usize;
     if n - 12 < keys {
-        return Found::Refused(10);
+        return Found::Refused(refusal::CUT);
     }
     let end = 12 + keys;
     let found = check_keys(rows, &s[12..end], entries);
-    let Found::Sound {
-        runs,
-        counts,
-        keys: _,
-        entries: _,
-    } = found
-    else {
+    let Found::Sound(head) = found else {
         return found;
     };
     let number = plain::check(kind, entries, &s[end..]);
     if number != 0 {
         return Found::Refused(number);
     }
-    Found::Sound {
-        runs,
-        counts,
+    Found::Sound(Head {
+        runs: head.runs,
+        counts: head.counts,
         keys,
         entries,
-    }
+    })
 }
 
 // The rules of a column.
 pub fn check(kind: Kind, encoding: Encoding, rows: usize, s: &[u8]) -> Found
-    requires { ⌜ (length (now s) ≤ 16777216) × (rows ≤ mostRows encoding) ⌝ }
+    requires { ⌜ (length (now s) ≤ MOST_BYTES) × (rows ≤ mostRows encoding) ⌝ }
     ensures { λ r. ⌜ r ≡ foundBy (rulesOf kind encoding rows (now (s .entry))) (headOf encoding (now (s .entry))) ⌝ }
 {
     match encoding {

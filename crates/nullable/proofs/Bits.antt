@@ -6,6 +6,7 @@ use mathlib.Core.Path.{_≡_, refl, sym, ap, _∙_}
 use mathlib.Core.List.{List, [], _∷_, map}
 use lib.ListN.{length, take, drop, getD}
 use lib.Seq.{getD-take, getD-drop}
+use Rattle.limits.specs.Limits.{MOST_ITEMS}
 use Rattle.plain.specs.Rows.{Row, null, int, bytes}
 use Rattle.plain.proofs.Places.{length-over, getD-over}
 use Rattle.nullable.specs.Nullable.{bitmapLength, presence, byteOf, bitmapByte, bitmapOf, bitAt}
@@ -18,7 +19,7 @@ pub bits-fit : (n : ℕ) → n ≤ 8 * bitmapLength n
 unfolding bitmapLength
 bits-fit n = omega arith
 
-pub bitmap-small : (n : ℕ) → n ≤ 1048576 → bitmapLength n ≤ 131072
+pub bitmap-small : (n : ℕ) → n ≤ MOST_ITEMS → bitmapLength n ≤ MOST_ITEMS / 8
 unfolding bitmapLength
 bitmap-small n h = omega arith
 

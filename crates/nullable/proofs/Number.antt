@@ -8,6 +8,7 @@ use lib.Seq.{take-all}
 use borrow.Author.Tests.{lt-ltb, le-ltb, eq-eqb, ne-eqb}
 use Rattle.encode.specs.Bytes.{number}
 use Rattle.encode.specs.declared.Kind.{Kind}
+use Rattle.limits.specs.Refusals.{CUT, LENGTH}
 use Rattle.plain.specs.Rules.{firstOf}
 use Rattle.plain.specs.Plain.{plainNumber}
 use Rattle.nullable.specs.Nullable.{bitmapLength, trailerOf, plainPart, nullableNumber}
@@ -24,7 +25,7 @@ last zero = refl
 last (suc e) = refl
 
 module _ (k : Kind) (n : ℕ) (b : List ℕ) where
-  pub no-trailer : length b < 4 → 10 ≡ nullableNumber k n b
+  pub no-trailer : length b < 4 → CUT ≡ nullableNumber k n b
   unfolding nullableNumber firstOf
   no-trailer h = simp (lt-ltb (length b) 4 h)
 
@@ -33,12 +34,12 @@ module _ (k : Kind) (n : ℕ) (b : List ℕ) where
     found : trailerOf b ≡ u
     found = sym (p ∙ last-four b h)
 
-    pub other-length : (u ≡ w → ⊥) → 11 ≡ nullableNumber k n b
+    pub other-length : (u ≡ w → ⊥) → LENGTH ≡ nullableNumber k n b
     unfolding nullableNumber firstOf
     other-length z = rw (found, ← q) (simp (le-ltb (length b) 4 h, ne-eqb u w z))
 
     module _ (e : u ≡ w) where
-      pub no-bitmap : length b < w + 4 → 10 ≡ nullableNumber k n b
+      pub no-bitmap : length b < w + 4 → CUT ≡ nullableNumber k n b
       unfolding nullableNumber firstOf
       no-bitmap l = rw (found, ← q) (simp (le-ltb (length b) 4 h, eq-eqb u w e, lt-ltb (length b) (w + 4) l))
 

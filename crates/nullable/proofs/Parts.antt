@@ -1,5 +1,5 @@
 -- The parts of a nullable block: how long they are, what a block that no rule refuses has, and the parts of the block of some rows. Assumes nothing.
-use Prim.Native.Nat.{ℕ, suc, _+_, _-_, _≤_, _<_}
+use Prim.Native.Nat.{ℕ, _+_, _-_, _/_, _≤_, _<_}
 use native.Mathlib.Omega.{arith}
 use mathlib.Core.Bool.{Bool, true, false, cond}
 use mathlib.Core.Path.{_≡_, refl, sym, ap, _∙_}
@@ -11,6 +11,8 @@ use borrow.Author.Tests.{ltb-true, ltb-false, eqb-true, eqb-false}
 use Rattle.encode.specs.Bytes.{little, number, low-first}
 use Rattle.encode.specs.declared.Kind.{Kind}
 use Rattle.encode.proofs.RoundTrip.{number-bytes, length-bytes}
+use Rattle.limits.specs.Limits.{MOST_ITEMS}
+use Rattle.limits.specs.Refusals.{CUT, LENGTH}
 use Rattle.plain.specs.Rows.{Row, null}
 use Rattle.plain.specs.Plain.{plainOf, plainNumber, plainRow}
 use Rattle.nullable.specs.Nullable.{bitmapLength, presence, bitmapOf, nullableOf, plainPart, bitmapPart, trailerOf, nullableNumber}
@@ -42,21 +44,21 @@ module _ (k : Kind) (n : ℕ) (b : List ℕ) where
   pub sound : nullableNumber k n b ≡ 0 → Sound
   sound z = first (ltb (length b) 4) refl
     where
-      never : (e : ℕ) → suc e ≡ nullableNumber k n b → ⊥
-      never e q = omega arith
+      never : (e : ℕ) → 0 < e → e ≡ nullableNumber k n b → ⊥
+      never e p q = omega arith
 
       third : 4 ≤ length b → trailerOf b ≡ bitmapLength n → (t : Bool) → ltb (length b) (bitmapLength n + 4) ≡ t → Sound
-      third f e true l = absurd (never 9 (no-bitmap k n b f (sym (last-four b f)) refl e (ltb-true _ _ l)))
+      third f e true l = absurd (never CUT (omega arith) (no-bitmap k n b f (sym (last-four b f)) refl e (ltb-true _ _ l)))
       third f e false l =
           let r : bitmapLength n + 4 ≤ length b = ltb-false _ _ l in
           record { room = r; length-told = e; plain = plain-rules r e ∙ z }
 
       second : 4 ≤ length b → (t : Bool) → eqb (trailerOf b) (bitmapLength n) ≡ t → Sound
       second f true e = third f (eqb-true _ _ e) (ltb (length b) (bitmapLength n + 4)) refl
-      second f false e = absurd (never 10 (other-length k n b f (sym (last-four b f)) refl (eqb-false _ _ e)))
+      second f false e = absurd (never LENGTH (omega arith) (other-length k n b f (sym (last-four b f)) refl (eqb-false _ _ e)))
 
       first : (t : Bool) → ltb (length b) 4 ≡ t → Sound
-      first true l = absurd (never 9 (no-trailer k n b (ltb-true _ _ l)))
+      first true l = absurd (never CUT (omega arith) (no-trailer k n b (ltb-true _ _ l)))
       first false l = second (ltb-false _ _ l) (eqb (trailerOf b) (bitmapLength n)) refl
 
 -- ---- the block of some rows
@@ -84,10 +86,10 @@ module _ (k : Kind) (rows : List Row) where
       rw (m, append-assoc, drop-at (plainOf k rows) (bitmapOf rows ++ end) (length (plainOf k rows)) refl)
       (take-at (bitmapOf rows) end (bitmapLength (length rows)) (length-bitmap rows))
 
-  pub trailer-of-block : length rows ≤ 1048576 → trailerOf (nullableOf k rows) ≡ bitmapLength (length rows)
+  pub trailer-of-block : length rows ≤ MOST_ITEMS → trailerOf (nullableOf k rows) ≡ bitmapLength (length rows)
   unfolding trailerOf nullableOf
   trailer-of-block h =
-      let s : bitmapLength (length rows) ≤ 131072 = bitmap-small (length rows) h in
+      let s : bitmapLength (length rows) ≤ MOST_ITEMS / 8 = bitmap-small (length rows) h in
       let m : length (plainOf k rows ++ bitmapOf rows) ≡ length (plainOf k rows) + bitmapLength (length rows) = simp (length-append, length-bitmap) in
       let l : length (plainOf k rows ++ bitmapOf rows) ≡ length (nullableOf k rows) - 4 = omega (arith, length-block) in
       ap number (drop-at (plainOf k rows ++ bitmapOf rows) end (length (nullableOf k rows) - 4) l)
@@ -95,7 +97,7 @@ module _ (k : Kind) (rows : List Row) where
       ∙ rw (length-bitmap rows) (omega arith)
 
   -- no rule refuses it if none of the plain rules does
-  pub block-number : length rows ≤ 1048576 → nullableNumber k (length rows) (nullableOf k rows) ≡ plainNumber k (length rows) (plainOf k rows)
+  pub block-number : length rows ≤ MOST_ITEMS → nullableNumber k (length rows) (nullableOf k rows) ≡ plainNumber k (length rows) (plainOf k rows)
   block-number h =
       sym (plain-rules k (length rows) (nullableOf k rows) (omega (arith, length-block)) (trailer-of-block h))
       ∙ ap (plainNumber k (length rows)) plain-of-block

@@ -6,6 +6,7 @@ use lib.Dec.{ltb, eqb}
 use lib.ListN.{length, take, drop, getD}
 use Rattle.encode.specs.Bytes.{little, number}
 use Rattle.encode.specs.declared.Kind.{Kind}
+use Rattle.limits.specs.Refusals.{CUT, LENGTH}
 use Rattle.plain.specs.Rows.{Row, null, int, bytes}
 use Rattle.plain.specs.Rules.{_if_, firstOf}
 use Rattle.plain.specs.Plain.{places, plainOf, plainNumber, plainRow}
@@ -50,9 +51,9 @@ trailerOf b = number (drop (length b - 4) b)
 unfoldable pub nullableNumber : Kind → ℕ → List ℕ → ℕ
 nullableNumber k n b =
     firstOf (
-    10 if ltb (length b) 4
-    ∷ 11 if not (eqb (trailerOf b) (bitmapLength n))
-    ∷ 10 if ltb (length b) (bitmapLength n + 4)
+    CUT if ltb (length b) 4
+    ∷ LENGTH if not (eqb (trailerOf b) (bitmapLength n))
+    ∷ CUT if ltb (length b) (bitmapLength n + 4)
     ∷ plainNumber k n (plainPart n b)
     ∷ [])
 

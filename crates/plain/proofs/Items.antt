@@ -1,6 +1,6 @@
 -- What the kinds' decode functions make of the items, one at a time and in a loop that stores them: one law over the kind. Assumes nothing.
 use mathlib.Core.Path.{_≡_, refl, sym, ap, _∙_, subst}
-use mathlib.Core.List.{List, [], _∷_, map}
+use mathlib.Core.List.{List, map}
 use Prim.Native.Nat.{ℕ, suc, _+_, _-_, _*_, _≤_, _<_}
 use native.Mathlib.Nat.{add-mul, add-zero, suc-mul, mul-le-mul-right}
 use native.Mathlib.Numerals.{add-one}
@@ -8,14 +8,11 @@ use native.Mathlib.Omega.{arith}
 use lib.IntN.{ℤ}
 use lib.ListN.{length, take, drop, replicate, set, length-set, length-drop}
 use lib.Seq.{sets, take-at, length-take-le}
-use types.Run.{OneOf, miss}
-use denote.Enum.Declared.{tagOf}
-use mir.Val.{bytes}
 use Rattle.encode.specs.Bytes.{inEight}
-use Rattle.encode.specs.Kinds.{Layout, layoutOf, widthOf, valueAs, decoded}
+use Rattle.encode.specs.Kinds.{shapeOf, laidAs, widthOf, valueAs, decoded}
 use Rattle.encode.specs.declared.Primitive.{Primitive}
-use Rattle.encode.specs.declared.Primitive.the-variants.{Bool as Boolean, I16, I32, I64, Date, Timestamp, TimestampTz, Interval}
-use Rattle.encode.proofs.Primitive.{the-type}
+use Rattle.encode.specs.declared.Shape.{Shape}
+use Rattle.encode.proofs.Shapes.{wideAs}
 use Rattle.plain.specs.Plain.{places, fixedAt}
 
 -- the bytes of an item in eight bytes
@@ -26,7 +23,9 @@ take-item w at s h =
     take-at b (replicate (8 - length b) 0) w (length-take-le w (drop at s) (omega arith))
 
 -- the value of item i, from what the item's function and the kind's decode ensure; v is the answer as it comes back from its bits
-pub value : (p : Primitive) (s : List ℕ) (at i : ℕ) → at ≡ i * widthOf p → at + widthOf p ≤ length s → {item : List ℕ} {v r : ℤ} → item ≡ inEight (take (widthOf p) (drop at s)) → r ≡ decoded p (take (widthOf p) item) → v ≡ r → v ≡ fixedAt p s i
+pub value :
+    (p : Primitive) (s : List ℕ) (at i : ℕ) → at ≡ i * widthOf p → at + widthOf p ≤ length s
+    → {item : List ℕ} {v r : ℤ} → item ≡ inEight (take (widthOf p) (drop at s)) → r ≡ decoded p (take (widthOf p) item) → v ≡ r → v ≡ fixedAt p s i
 unfolding fixedAt
 value p s at i e h k d b =
     b
@@ -35,13 +34,16 @@ value p s at i e h k d b =
     ∙ ap (decoded p) (take-item (widthOf p) at s h)
     ∙ ap (λ (a : ℕ). decoded p (take (widthOf p) (drop a s))) e
 
--- the same where a match found the kind q
-module _ {p : Primitive} (q : Primitive) (e : p ≡ q) (s : List ℕ) (i at : ℕ) (a : at ≡ i * widthOf q) (h : i * widthOf p + widthOf p ≤ length s) where
+-- the same of a kind of q's shape
+module _ (p q : Primitive) (e : shapeOf p ≡ shapeOf q) (s : List ℕ) (i at : ℕ) (a : at ≡ i * widthOf q) (h : i * widthOf p + widthOf p ≤ length s) where
   pub item-found : at + widthOf q ≤ length s
-  item-found = let b : i * widthOf q + widthOf q ≤ length s = subst (λ (k : Primitive). i * widthOf k + widthOf k ≤ length s) e h in omega arith
+  item-found = let b : i * widthOf q + widthOf q ≤ length s = subst (λ (k : Shape). i * wideAs k + wideAs k ≤ length s) e h in omega arith
 
-  pub value-found : {item : List ℕ} {v r : ℤ} → item ≡ inEight (take (widthOf q) (drop at s)) → r ≡ decoded q (take (widthOf q) item) → v ≡ r → v ≡ fixedAt p s i
-  value-found {item} {v} k d b = subst (λ (k : Primitive). v ≡ fixedAt k s i) (sym e) (value q s at i a item-found k d b)
+  pub value-found :
+      {item : List ℕ} {v r : ℤ} → item ≡ inEight (take (widthOf q) (drop at s)) → r ≡ decoded q (take (widthOf q) item) → v ≡ r → v ≡ fixedAt p s i
+  unfolding fixedAt
+  value-found {item} {v} k d b =
+      subst (λ (k : Shape). v ≡ valueAs (laidAs k) (take (wideAs k) (drop (i * wideAs k) s))) (sym e) (value q s at i a item-found k d b)
 
 -- an item of w bytes below n is within the bytes of n; and so from an item on
 pub item-room : (i n w m : ℕ) → i < n → n * w ≤ m → i * w + w ≤ m
@@ -76,7 +78,9 @@ module _ {p : Primitive} {s : List ℕ} {from n : ℕ} {out₀ out : List ℤ} {
       let l : (from + i) * widthOf p + widthOf p ≤ length s = item-within from i n (widthOf p) (length s) h b in
       omega arith
 
-  pub storing-step : i < n → from * widthOf p + n * widthOf p ≤ length s → {item : List ℕ} {v r : ℤ} → item ≡ inEight (take (widthOf p) (drop at s)) → r ≡ decoded p (take (widthOf p) item) → v ≡ r → Storing p s from n out₀ (set out i v) (at + widthOf p) (i + 1)
+  pub storing-step :
+      i < n → from * widthOf p + n * widthOf p ≤ length s → {item : List ℕ} {v r : ℤ} → item ≡ inEight (take (widthOf p) (drop at s)) → r ≡ decoded p (take (widthOf p) item) → v ≡ r
+      → Storing p s from n out₀ (set out i v) (at + widthOf p) (i + 1)
   unfolding places
   storing-step h b {item} {v} {r} k d j =
       let m : n - i ≡ suc (n - (i + 1)) = omega arith in
@@ -95,22 +99,14 @@ module _ {p : Primitive} {s : List ℕ} {from n : ℕ} {out₀ out : List ℤ} {
   unfolding places
   storing-end h = let m : n - i ≡ 0 = omega arith in rw m at (g .rest)
 
--- where a match found a kind of the layout of q
-module _ (p q : Primitive) (e : layoutOf p ≡ layoutOf q) where
+-- where a match found the shape of q
+module _ (p q : Primitive) (e : shapeOf p ≡ shapeOf q) where
   pub room-found : (from n m : ℕ) → from * widthOf p + n * widthOf p ≤ m → from * widthOf q + n * widthOf q ≤ m
-  room-found from n m h = subst (λ (l : Layout). from * bytes (l .size) + n * bytes (l .size) ≤ m) e h
+  room-found from n m h = subst (λ (k : Shape). from * wideAs k + n * wideAs k ≤ m) e h
 
-  pub stored-found : (out₀ out : List ℤ) (s : List ℕ) (from n : ℕ) → out ≡ sets out₀ 0 (map (fixedAt q s) (places n from)) → out ≡ sets out₀ 0 (map (fixedAt p s) (places n from))
+  pub stored-found :
+      (out₀ out : List ℤ) (s : List ℕ) (from n : ℕ) → out ≡ sets out₀ 0 (map (fixedAt q s) (places n from)) → out ≡ sets out₀ 0 (map (fixedAt p s) (places n from))
   unfolding fixedAt
-  stored-found out₀ out s from n h = subst (λ (l : Layout). out ≡ sets out₀ 0 (map (λ (i : ℕ). valueAs l (take (bytes (l .size)) (drop (i * bytes (l .size)) s))) (places n from))) (sym e) h
-
--- the kinds that the last arm names
-pub as-timestamp : (p : Primitive) → OneOf (5 ∷ 6 ∷ 7 ∷ []) (tagOf the-type p) → layoutOf p ≡ layoutOf Timestamp
-as-timestamp Boolean h = absurd (miss (5 ∷ 6 ∷ 7 ∷ []) 0 tt h)
-as-timestamp I16 h = absurd (miss (5 ∷ 6 ∷ 7 ∷ []) 1 tt h)
-as-timestamp I32 h = absurd (miss (5 ∷ 6 ∷ 7 ∷ []) 2 tt h)
-as-timestamp I64 h = absurd (miss (5 ∷ 6 ∷ 7 ∷ []) 3 tt h)
-as-timestamp Date h = absurd (miss (5 ∷ 6 ∷ 7 ∷ []) 4 tt h)
-as-timestamp Timestamp h = refl
-as-timestamp TimestampTz h = refl
-as-timestamp Interval h = refl
+  stored-found out₀ out s from n h =
+      let valued : Shape → ℕ → ℤ = λ (k : Shape) (i : ℕ). valueAs (laidAs k) (take (wideAs k) (drop (i * wideAs k) s)) in
+      subst (λ (k : Shape). out ≡ sets out₀ 0 (map (valued k) (places n from))) (sym e) h

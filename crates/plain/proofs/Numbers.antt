@@ -14,6 +14,8 @@ use Rattle.encode.specs.Kinds.{layoutOf, widthOf}
 use Rattle.encode.specs.declared.Primitive.{Primitive}
 use Rattle.encode.specs.declared.Kind.{Kind}
 use Rattle.encode.specs.declared.Kind.the-variants.{Fixed, Char, Blob}
+use Rattle.limits.specs.Limits.{MOST_ITEMS}
+use Rattle.limits.specs.Refusals.{CUT, LENGTH, ENDS}
 use Rattle.plain.specs.Rules.{_if_, firstOf}
 use Rattle.plain.specs.Plain.{places, endAt, startAt, endsOf, rising, lastOf, plainNumber, leastBytes, endsGood}
 
@@ -28,36 +30,36 @@ bytes-small w128 = omega arith
 pub width-few : (p : Primitive) {w : ℕ} → w ≡ widthOf p → w ≤ 255
 width-few p h = let b = bytes-small (layoutOf p .size) in omega arith
 
-pub product-small : (n w : ℕ) → n ≤ 1048576 → w < 256 → n * w ≤ 1048576 * 256
+pub product-small : (n w : ℕ) → n ≤ MOST_ITEMS → w < 256 → n * w ≤ MOST_ITEMS * 256
 product-small n w h k = let l : w ≤ 256 = omega arith in mul-le-mul h l
 
 -- ---- a kind whose items are w bytes each
-pub fixed-number : (p : Primitive) (w n : ℕ) (s : List ℕ) → w ≡ widthOf p → plainNumber (Fixed p) n s ≡ 11 if not (eqb (length s) (n * w))
+pub fixed-number : (p : Primitive) (w n : ℕ) (s : List ℕ) → w ≡ widthOf p → plainNumber (Fixed p) n s ≡ LENGTH if not (eqb (length s) (n * w))
 unfolding plainNumber
-fixed-number p w n s e = ap (λ (v : ℕ). 11 if not (eqb (length s) (n * v))) (sym e)
+fixed-number p w n s e = ap (λ (v : ℕ). LENGTH if not (eqb (length s) (n * v))) (sym e)
 
-pub char-number : (w n : ℕ) (s : List ℕ) → plainNumber (Char w) n s ≡ 11 if not (eqb (length s) (n * w))
+pub char-number : (w n : ℕ) (s : List ℕ) → plainNumber (Char w) n s ≡ LENGTH if not (eqb (length s) (n * w))
 unfolding plainNumber
 char-number w n s = refl
 
-module _ {k : Kind} (j : Kind) (e : k ≡ j) (w n : ℕ) (s : List ℕ) (d : plainNumber j n s ≡ 11 if not (eqb (length s) (n * w))) where
+module _ {k : Kind} (j : Kind) (e : k ≡ j) (w n : ℕ) (s : List ℕ) (d : plainNumber j n s ≡ LENGTH if not (eqb (length s) (n * w))) where
   pub length-same : length s ≡ n * w → 0 ≡ plainNumber k n s
   length-same h = sym (ap (λ (i : Kind). plainNumber i n s) e ∙ d ∙ simp (eq-eqb (length s) (n * w) h))
 
-  pub length-other : (length s ≡ n * w → ⊥) → 11 ≡ plainNumber k n s
+  pub length-other : (length s ≡ n * w → ⊥) → LENGTH ≡ plainNumber k n s
   length-other h = sym (ap (λ (i : Kind). plainNumber i n s) e ∙ d ∙ simp (ne-eqb (length s) (n * w) h))
 
--- ---- the plain rules give 0: there are bytes enough, and rule 14 holds of each item
-none-of-three : (a b c : Bool) → firstOf (10 if a ∷ 14 if b ∷ 11 if c ∷ []) ≡ 0 → (a ≡ false) × (b ≡ false) × (c ≡ false)
+-- ---- the plain rules give 0: there are bytes enough, and the rule of the ends holds of each item
+none-of-three : (a b c : Bool) → firstOf (CUT if a ∷ ENDS if b ∷ LENGTH if c ∷ []) ≡ 0 → (a ≡ false) × (b ≡ false) × (c ≡ false)
 unfolding firstOf
 none-of-three true b c h = absurd (omega arith)
 none-of-three false true c h = absurd (omega arith)
 none-of-three false false true h = absurd (omega arith)
 none-of-three false false false h = (refl, refl, refl)
 
-same-length : (m j : ℕ) → 11 if not (eqb m j) ≡ 0 → m ≡ j
+same-length : (m j : ℕ) → LENGTH if not (eqb m j) ≡ 0 → m ≡ j
 same-length m j h = eqb-true m j (by (eqb m j) h) where
-  by : (a : Bool) → 11 if not a ≡ 0 → a ≡ true
+  by : (a : Bool) → LENGTH if not a ≡ 0 → a ≡ true
   by true h = refl
   by false h = absurd (omega arith)
 
@@ -84,7 +86,9 @@ plain-least (Char w) n s h = omega (arith, char-plain w n s h)
 plain-least Blob n s h = blobs-plain n s h .0
 
 -- ends that rise from where item i starts on are good one by one
-risen : (s : List ℕ) (room n i before : ℕ) → before ≡ startAt s i → rising before room (map (endAt s) (places n i)) ≡ true → (k : ℕ) → k < n → leb (startAt s (i + k)) (endAt s (i + k)) && leb (endAt s (i + k)) room ≡ true
+risen :
+    (s : List ℕ) (room n i before : ℕ) → before ≡ startAt s i → rising before room (map (endAt s) (places n i)) ≡ true → (k : ℕ) → k < n
+    → leb (startAt s (i + k)) (endAt s (i + k)) && leb (endAt s (i + k)) room ≡ true
 unfolding places rising startAt
 risen s room zero i before e r k h = absurd (omega arith)
 risen s room (suc n) i before e r zero h =

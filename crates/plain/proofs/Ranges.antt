@@ -1,4 +1,4 @@
--- Where the bytes of an item lie, for each kind that a match found, and what rule 14 of one item says. Assumes nothing.
+-- Where the bytes of an item lie, for each kind that a match found, and what the rule of the ends says of one item. Assumes nothing.
 use mathlib.Core.Path.{_≡_, sym, subst}
 use mathlib.Core.Bool.{true, false, _&&_, and-eq-true-iff}
 use mathlib.Core.List.{List}

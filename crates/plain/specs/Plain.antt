@@ -10,6 +10,7 @@ use Rattle.encode.specs.Kinds.{widthOf, encoded, decoded}
 use Rattle.encode.specs.declared.Primitive.{Primitive}
 use Rattle.encode.specs.declared.Kind.{Kind}
 use Rattle.encode.specs.declared.Kind.the-variants.{Fixed, Char, Blob}
+use Rattle.limits.specs.Refusals.{CUT, LENGTH, ENDS}
 use Rattle.plain.specs.Rows.{Row, null, int, bytes, intIn, bytesIn}
 use Rattle.plain.specs.Rules.{_if_, firstOf}
 
@@ -70,13 +71,13 @@ lastOf e (e′ ∷ es) = lastOf e′ es
 -- Fixed and char: the length is n times the width. Blob: at least 4n bytes; ends never fall and never pass the data; the last end (0 if n is 0) is
 -- the data's length.
 unfoldable pub plainNumber : Kind → ℕ → List ℕ → ℕ
-plainNumber (Fixed p) n b = 11 if not (eqb (length b) (n * widthOf p))
-plainNumber (Char w) n b = 11 if not (eqb (length b) (n * w))
+plainNumber (Fixed p) n b = LENGTH if not (eqb (length b) (n * widthOf p))
+plainNumber (Char w) n b = LENGTH if not (eqb (length b) (n * w))
 plainNumber Blob n b =
     firstOf (
-    10 if ltb (length b) (4 * n)
-    ∷ 14 if not (rising 0 (length b - 4 * n) (endsOf n b))
-    ∷ 11 if not (eqb (lastOf 0 (endsOf n b)) (length b - 4 * n))
+    CUT if ltb (length b) (4 * n)
+    ∷ ENDS if not (rising 0 (length b - 4 * n) (endsOf n b))
+    ∷ LENGTH if not (eqb (lastOf 0 (endsOf n b)) (length b - 4 * n))
     ∷ [])
 
 -- ---- the rows: item i of n
@@ -106,7 +107,7 @@ leastBytes (Fixed p) n = n * widthOf p
 leastBytes (Char w) n = n * w
 leastBytes Blob n = 4 * n
 
--- rule 14 of item i
+-- the rule of the ends, of item i
 unfoldable pub endsGood : Kind → ℕ → List ℕ → ℕ → Bool
 endsGood (Fixed p) n b i = true
 endsGood (Char w) n b i = true

@@ -4,11 +4,11 @@ use encode::DateKind;
 use encode::I16Kind;
 use encode::I32Kind;
 use encode::I64Kind;
-use encode::IntervalKind;
 use encode::Kind;
 use encode::Primitive;
+use encode::Shape;
 use encode::TimestampKind;
-use encode::TimestampTzKind;
+use limits::refusal;
 ghost use mathlib.Core.Path.{_≡_};
 ghost use mathlib.Core.Bool.{true};
 ghost use mathlib.Core.List.{map};
@@ -17,6 +17,7 @@ ghost use lib.ListN.{length, take, drop};
 ghost use lib.Seq.{sets};
 ghost use Rattle.encode.specs.Bytes.{number, inEight};
 ghost use Rattle.encode.specs.Kinds.{widthOf};
+ghost use Rattle.limits.specs.Limits.{MOST_ITEMS};
 ghost use Rattle.plain.specs.Rows.{bytesIn};
 ghost use Rattle.plain.specs.Plain.{places, fixedAt, plainRow, plainNumber, leastBytes, endsGood, endAt, startAt, charAt};
 
@@ -72,24 +73,24 @@ pub fn item8(s: &[u8], at: usize) -> [u8; 8]
 
 // The value of item `i`.
 pub fn value_at(p: Primitive, s: &[u8], i: usize) -> i64
-    requires { ⌜ (i < 1048576) × (i * widthOf p + widthOf p ≤ length (now s)) ⌝ }
+    requires { ⌜ (i < MOST_ITEMS) × (i * widthOf p + widthOf p ≤ length (now s)) ⌝ }
     ensures { λ r. ⌜ r ≡ fixedAt p (now (s .entry)) i ⌝ }
 {
-    match p {
-        Primitive::Bool => BoolKind::decode(item1(s, i)),
-        Primitive::I16 => I16Kind::decode(item2(s, i * 2)),
-        Primitive::I32 => I32Kind::decode(item4(s, i * 4)),
-        Primitive::I64 => I64Kind::decode(item8(s, i * 8)),
-        Primitive::Date => DateKind::decode(item4(s, i * 4)),
-        Primitive::Timestamp => TimestampKind::decode(item8(s, i * 8)),
-        Primitive::TimestampTz => TimestampTzKind::decode(item8(s, i * 8)),
-        Primitive::Interval => IntervalKind::decode(item8(s, i * 8)),
+    let shape = p.shape();
+    match shape {
+        Shape::Bool => BoolKind::decode(item1(s, i)),
+        Shape::Low2 => I16Kind::decode(item2(s, i * 2)),
+        Shape::Low4 => I32Kind::decode(item4(s, i * 4)),
+        Shape::Low8 => I64Kind::decode(item8(s, i * 8)),
+        Shape::High4 => DateKind::decode(item4(s, i * 4)),
+        Shape::High8 => TimestampKind::decode(item8(s, i * 8)),
     }
 }
 
-// The values of the `n` items from `from` on, a loop for each layout, so that no loop asks for the kind.
+// The values of the `n` items from `from` on, a loop for each shape, so that no loop asks for the kind. Each has the name of
+// a kind of its shape.
 fn bools(s: &[u8], from: usize, n: usize, out: &mut [i64])
-    requires { ⌜ (from + n ≤ 1048576) × (from * 1 + n * 1 ≤ length (now s)) × (n ≤ length (now out)) ⌝ }
+    requires { ⌜ (from + n ≤ MOST_ITEMS) × (from * 1 + n * 1 ≤ length (now s)) × (n ≤ length (now out)) ⌝ }
     ensures { λ _. ⌜ now (out .exit) ≡ sets (now (out .entry)) 0 (map (fixedAt Primitive.Bool (now (s .entry))) (places n from)) ⌝ }
 {
     let mut at = from;
@@ -102,7 +103,7 @@ fn bools(s: &[u8], from: usize, n: usize, out: &mut [i64])
 }
 
 fn i16s(s: &[u8], from: usize, n: usize, out: &mut [i64])
-    requires { ⌜ (from + n ≤ 1048576) × (from * 2 + n * 2 ≤ length (now s)) × (n ≤ length (now out)) ⌝ }
+    requires { ⌜ (from + n ≤ MOST_ITEMS) × (from * 2 + n * 2 ≤ length (now s)) × (n ≤ length (now out)) ⌝ }
     ensures { λ _. ⌜ now (out .exit) ≡ sets (now (out .entry)) 0 (map (fixedAt Primitive.I16 (now (s .entry))) (places n from)) ⌝ }
 {
     let mut at = from * 2;
@@ -115,7 +116,7 @@ fn i16s(s: &[u8], from: usize, n: usize, out: &mut [i64])
 }
 
 fn i32s(s: &[u8], from: usize, n: usize, out: &mut [i64])
-    requires { ⌜ (from + n ≤ 1048576) × (from * 4 + n * 4 ≤ length (now s)) × (n ≤ length (now out)) ⌝ }
+    requires { ⌜ (from + n ≤ MOST_ITEMS) × (from * 4 + n * 4 ≤ length (now s)) × (n ≤ length (now out)) ⌝ }
     ensures { λ _. ⌜ now (out .exit) ≡ sets (now (out .entry)) 0 (map (fixedAt Primitive.I32 (now (s .entry))) (places n from)) ⌝ }
 {
     let mut at = from * 4;
@@ -128,7 +129,7 @@ fn i32s(s: &[u8], from: usize, n: usize, out: &mut [i64])
 }
 
 fn i64s(s: &[u8], from: usize, n: usize, out: &mut [i64])
-    requires { ⌜ (from + n ≤ 1048576) × (from * 8 + n * 8 ≤ length (now s)) × (n ≤ length (now out)) ⌝ }
+    requires { ⌜ (from + n ≤ MOST_ITEMS) × (from * 8 + n * 8 ≤ length (now s)) × (n ≤ length (now out)) ⌝ }
     ensures { λ _. ⌜ now (out .exit) ≡ sets (now (out .entry)) 0 (map (fixedAt Primitive.I64 (now (s .entry))) (places n from)) ⌝ }
 {
     let mut at = from * 8;
@@ -141,7 +142,7 @@ fn i64s(s: &[u8], from: usize, n: usize, out: &mut [i64])
 }
 
 fn dates(s: &[u8], from: usize, n: usize, out: &mut [i64])
-    requires { ⌜ (from + n ≤ 1048576) × (from * 4 + n * 4 ≤ length (now s)) × (n ≤ length (now out)) ⌝ }
+    requires { ⌜ (from + n ≤ MOST_ITEMS) × (from * 4 + n * 4 ≤ length (now s)) × (n ≤ length (now out)) ⌝ }
     ensures { λ _. ⌜ now (out .exit) ≡ sets (now (out .entry)) 0 (map (fixedAt Primitive.Date (now (s .entry))) (places n from)) ⌝ }
 {
     let mut at = from * 4;
@@ -154,7 +155,7 @@ fn dates(s: &[u8], from: usize, n: usize, out: &mut [i64])
 }
 
 fn timestamps(s: &[u8], from: usize, n: usize, out: &mut [i64])
-    requires { ⌜ (from + n ≤ 1048576) × (from * 8 + n * 8 ≤ length (now s)) × (n ≤ length (now out)) ⌝ }
+    requires { ⌜ (from + n ≤ MOST_ITEMS) × (from * 8 + n * 8 ≤ length (now s)) × (n ≤ length (now out)) ⌝ }
     ensures { λ _. ⌜ now (out .exit) ≡ sets (now (out .entry)) 0 (map (fixedAt Primitive.Timestamp (now (s .entry))) (places n from)) ⌝ }
 {
     let mut at = from * 8;
@@ -168,18 +169,17 @@ fn timestamps(s: &[u8], from: usize, n: usize, out: &mut [i64])
 
 // The values of the `n` items from `from` on.
 pub fn values(p: Primitive, s: &[u8], from: usize, n: usize, out: &mut [i64])
-    requires { ⌜ (from + n ≤ 1048576) × (from * widthOf p + n * widthOf p ≤ length (now s)) × (n ≤ length (now out)) ⌝ }
+    requires { ⌜ (from + n ≤ MOST_ITEMS) × (from * widthOf p + n * widthOf p ≤ length (now s)) × (n ≤ length (now out)) ⌝ }
     ensures { λ _. ⌜ now (out .exit) ≡ sets (now (out .entry)) 0 (map (fixedAt p (now (s .entry))) (places n from)) ⌝ }
 {
-    match p {
-        Primitive::Bool => bools(s, from, n, out),
-        Primitive::I16 => i16s(s, from, n, out),
-        Primitive::I32 => i32s(s, from, n, out),
-        Primitive::I64 => i64s(s, from, n, out),
-        Primitive::Date => dates(s, from, n, out),
-        Primitive::Timestamp | Primitive::TimestampTz | Primitive::Interval => {
-            timestamps(s, from, n, out)
-        }
+    let shape = p.shape();
+    match shape {
+        Shape::Bool => bools(s, from, n, out),
+        Shape::Low2 => i16s(s, from, n, out),
+        Shape::Low4 => i32s(s, from, n, out),
+        Shape::Low8 => i64s(s, from, n, out),
+        Shape::High4 => dates(s, from, n, out),
+        Shape::High8 => timestamps(s, from, n, out),
     }
 }
 
@@ -187,7 +187,7 @@ pub fn values(p: Primitive, s: &[u8], from: usize, n: usize, out: &mut [i64])
 
 // Where blob item `i` starts in the data, and where it ends.
 pub fn start_at(s: &[u8], i: usize) -> usize
-    requires { ⌜ (i < 1048576) × (4 * i ≤ length (now s)) ⌝ }
+    requires { ⌜ (i < MOST_ITEMS) × (4 * i ≤ length (now s)) ⌝ }
     ensures { λ r. ⌜ (r ≡ startAt (now (s .entry)) i) × (r < 2 ^ 32) ⌝ }
 {
     if i == 0 {
@@ -197,7 +197,7 @@ pub fn start_at(s: &[u8], i: usize) -> usize
 }
 
 pub fn end_at(s: &[u8], i: usize) -> usize
-    requires { ⌜ (i < 1048576) × (4 * i + 4 ≤ length (now s)) ⌝ }
+    requires { ⌜ (i < MOST_ITEMS) × (4 * i + 4 ≤ length (now s)) ⌝ }
     ensures { λ r. ⌜ (r ≡ endAt (now (s .entry)) i) × (r < 2 ^ 32) ⌝ }
 {
     u32_at(s, 4 * i)
@@ -205,7 +205,7 @@ pub fn end_at(s: &[u8], i: usize) -> usize
 
 // The length of char item `i`, cut at its first NUL.
 fn char_len(s: &[u8], i: usize, w: usize) -> usize
-    requires { ⌜ (i < 1048576) × (w < 256) × (i * w + w ≤ length (now s)) ⌝ }
+    requires { ⌜ (i < MOST_ITEMS) × (w < 256) × (i * w + w ≤ length (now s)) ⌝ }
     ensures { λ r. ⌜ (r ≡ length (charAt w (now (s .entry)) i)) × (r ≤ w) ⌝ }
 {
     let at = i * w;
@@ -227,7 +227,7 @@ pub struct Range {
 
 // The bytes of char item `i` of `n`; of blob item `i`.
 pub fn char_at(w: usize, n: usize, s: &[u8], i: usize) -> Range
-    requires { ⌜ (i < n) × (n ≤ 1048576) × (w < 256) × (leastBytes (Kind.Char w) n ≤ length (now s)) ⌝ }
+    requires { ⌜ (i < n) × (n ≤ MOST_ITEMS) × (w < 256) × (leastBytes (Kind.Char w) n ≤ length (now s)) ⌝ }
     ensures { λ r. ⌜ (r .from + r .len ≤ length (now (s .entry))) × (take (r .len) (drop (r .from) (now (s .entry))) ≡ bytesIn (plainRow (Kind.Char w) n (now (s .entry)) i)) ⌝ }
 {
     Range {
@@ -237,7 +237,7 @@ pub fn char_at(w: usize, n: usize, s: &[u8], i: usize) -> Range
 }
 
 pub fn blob_at(n: usize, s: &[u8], i: usize) -> Range
-    requires { ⌜ (i < n) × (n ≤ 1048576) × (leastBytes Kind.Blob n ≤ length (now s)) × (endsGood Kind.Blob n (now s) i ≡ true) ⌝ }
+    requires { ⌜ (i < n) × (n ≤ MOST_ITEMS) × (leastBytes Kind.Blob n ≤ length (now s)) × (endsGood Kind.Blob n (now s) i ≡ true) ⌝ }
     ensures { λ r. ⌜ (r .from + r .len ≤ length (now (s .entry))) × (take (r .len) (drop (r .from) (now (s .entry))) ≡ bytesIn (plainRow Kind.Blob n (now (s .entry)) i)) ⌝ }
 {
     let from = start_at(s, i);
@@ -249,9 +249,10 @@ pub fn blob_at(n: usize, s: &[u8], i: usize) -> Range
 
 // ---- opening
 
-// Whether `n` ends never fall and never pass the data, and the last one is the data's length: 0, 14 or 11.
+// Whether `n` ends never fall and never pass the data, and the last one is the data's length: 0, or the
+// refusal of the ends or of the length.
 fn check_ends(n: usize, s: &[u8]) -> u8
-    requires { ⌜ (n ≤ 1048576) × (4 * n ≤ length (now s)) ⌝ }
+    requires { ⌜ (n ≤ MOST_ITEMS) × (4 * n ≤ length (now s)) ⌝ }
     ensures { λ r. ⌜ r ≡ plainNumber Kind.Blob n (now (s .entry)) ⌝ }
 {
     let data = s.len() - 4 * n;
@@ -260,28 +261,40 @@ fn check_ends(n: usize, s: &[u8]) -> u8
     while i < n {
         let end = u32_at(s, 4 * i);
         if end < last {
-            return 14;
+            return refusal::ENDS;
         }
         if data < end {
-            return 14;
+            return refusal::ENDS;
         }
         last = end;
         i += 1;
     }
-    if last == data { 0 } else { 11 }
+    if last == data { 0 } else { refusal::LENGTH }
 }
 
 // The number that the plain rules give for `n` items.
 pub fn check(kind: Kind, n: usize, s: &[u8]) -> u8
-    requires { ⌜ n ≤ 1048576 ⌝ }
+    requires { ⌜ n ≤ MOST_ITEMS ⌝ }
     ensures { λ r. ⌜ r ≡ plainNumber kind n (now (s .entry)) ⌝ }
 {
     match kind {
-        Kind::Fixed(p) => { if s.len() == n * p.width() { 0 } else { 11 } }
-        Kind::Char(w) => { if s.len() == n * (w as usize) { 0 } else { 11 } }
+        Kind::Fixed(p) => {
+            if s.len() == n * p.width() {
+                0
+            } else {
+                refusal::LENGTH
+            }
+        }
+        Kind::Char(w) => {
+            if s.len() == n * (w as usize) {
+                0
+            } else {
+                refusal::LENGTH
+            }
+        }
         Kind::Blob => {
             if s.len() < 4 * n {
-                10
+                refusal::CUT
             } else {
                 check_ends(n, s)
             }

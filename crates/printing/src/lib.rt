@@ -1,25 +1,23 @@
-// The listing program's calls on files: it prints what `listing` opens and the texts that `listing` makes. Rows are read one after
+// The listing program's calls on files: it prints what `text` opens and the texts that `text` makes. Rows are read one after
 // the other, so that a listing of any length needs the room of one row only.
-use script::first;
-use script::say;
 ghost use mathlib.Core.Path.{_≡_};
-ghost use lib.ListN.{length};
-ghost use Rattle.listing.specs.Descriptor.{inputOpened};
+ghost use lib.ListN.{length, take};
+ghost use Rattle.text.specs.Descriptor.{inputOpened};
 ghost use Rattle.printing.specs.Printing.{refusalOf};
 use block::Opened;
 use block::Reader;
 use encode::FoundKind;
 use encode::Kind;
-use listing::Made;
+use text::Made;
 
 // Lists the input on standard output. What comes back is 0 or the number that was printed behind `refused`.
 pub fn print(input: &[u8]) -> u8
     ensures { λ r. ⌜ r ≡ refusalOf (inputOpened (now (input .entry))) ⌝ }
 {
-    let answer = listing::open(input);
+    let answer = text::open(input);
     match answer {
         Opened::Open(reader) => {
-            say_all(reader, listing::block_of(input));
+            say_all(reader, text::block_of(input));
             0
         }
         Opened::Refused(number) => {
@@ -27,6 +25,20 @@ pub fn print(input: &[u8]) -> u8
             number
         }
     }
+}
+
+fn say(text: &[u8]) {
+    io::write_all(1, text);
+}
+
+// The first n bytes, or all if there are fewer.
+fn first(s: &[u8], n: usize) -> &[u8]
+    ensures { λ r. ⌜ now r ≡ take n (now (s .entry)) ⌝ }
+{
+    if s.len() <= n {
+        return s;
+    }
+    &s[..n]
 }
 
 // A word and a number.
@@ -90,7 +102,7 @@ fn say_next(
     let mut flags = [0u8; 1];
     let mut ends = [0u32; 1];
     let answer = reader.batch(block, 1, &mut values, &mut flags, &mut ends, bytes);
-    let made = listing::row_text(
+    let made = text::row_text(
         kind,
         flags[0] != 0,
         values[0],

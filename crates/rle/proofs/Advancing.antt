@@ -5,13 +5,13 @@ use mathlib.Core.List.{List}
 use mathlib.Core.Path.{_≡_, sym, _∙_}
 use lib.ListN.{replicate}
 use Rattle.rle.specs.declared.Spot.{Spot}
-use Rattle.rle.specs.declared.Held.{Held}
-use Rattle.rle.specs.declared.Held.the-variants.{Rows, Wrong}
+use Rattle.rle.specs.declared.Rest.{Rest}
+use Rattle.rle.specs.declared.Rest.the-variants.{Rows, Wrong}
 use Rattle.rle.specs.declared.Reached.the-variants.{At, Stuck}
 use Rattle.rle.specs.Stepping.{spot, here, stepsFrom}
-use Rattle.rle.specs.Pieces.{looked, reached}
-use Rattle.rle.proofs.Laws.{reached-before}
-use Rattle.rle.proofs.Looking.{Found, found, wrong-stuck, found-in, found-past}
+use Rattle.rle.specs.Pieces.{restOf, reached}
+use Rattle.rle.proofs.Steps.{reached-before}
+use Rattle.rle.proofs.RestOfRun.{Found, found, wrong-stuck, found-in, found-past}
 
 pub record Going (runs : ℕ) (counts : List ℕ) (n : ℕ) (s : Spot) (run at taken left : ℕ) : Type 0 where
   pub whole : reached (stepsFrom runs counts n s) ≡ reached (stepsFrom runs counts left (spot run at taken))
@@ -21,7 +21,7 @@ module _ {runs : ℕ} {counts : List ℕ} {n : ℕ} {s : Spot} {run at taken lef
   unfolding reached stepsFrom
   going-end h = let z : left ≡ 0 = omega arith in sym (w .whole ∙ rw z)
 
-  module _ (l : 0 < left) {a : Held} (e : a ≡ looked (here runs counts (spot run at taken)) taken) where
+  module _ (l : 0 < left) {a : Rest} (e : a ≡ restOf (here runs counts (spot run at taken)) taken) where
     pub going-wrong : a ≡ Wrong → Stuck ≡ reached (stepsFrom runs counts n s)
     unfolding reached
     going-wrong b = sym (w .whole ∙ rw (wrong-stuck runs counts (spot run at taken) e left l b))

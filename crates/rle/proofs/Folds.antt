@@ -3,7 +3,7 @@ use Prim.Native.Nat.{ℕ, zero, suc, _<_}
 use mathlib.Core.List.{List, [], _∷_, _++_, map, map-append}
 use mathlib.Core.Path.{_≡_, refl, ap, _∙_}
 use lib.ListN.{replicate}
-use Rattle.rle.proofs.Laws.{Below}
+use Rattle.rle.proofs.Steps.{Below}
 
 module _ {A B : Type 0} (f : A → B) where
   pub map-replicate : (n : ℕ) (x : A) → map f (replicate n x) ≡ replicate n (f x)

@@ -1,7 +1,7 @@
-pub mod Laws
+pub mod Steps
 pub mod OneRun
 pub mod Folds
-pub mod Looking
+pub mod RestOfRun
 pub mod Advancing
 pub mod Pieces
 pub mod Walking

@@ -16,7 +16,7 @@ use Rattle.varint.specs.Varint.{countAt}
 use Rattle.area.proofs.Laws.{lt-or-ge}
 use Rattle.rle.specs.declared.Spot.{Spot}
 use Rattle.rle.specs.Stepping.{spot, none, row, stuck, rows, leave, one, before, andThen, here, settle, next, stepsFrom}
-use Rattle.rle.proofs.Laws.{before-nil, before-before}
+use Rattle.rle.proofs.Steps.{before-nil, before-before}
 
 -- ---- leaving a run
 stays : (v len r p t : ℕ) → (v ≡ t → ⊥) → leave (Number v len) (spot r p t) ≡ spot r p t

@@ -8,12 +8,14 @@ use lib.Dec.{ltb, eqb}
 use lib.ListN.{length, take, drop}
 use borrow.Author.Tests.{lt-ltb, le-ltb, eq-eqb, ne-eqb, ltb-false, eqb-true, eqb-false, not-false}
 use Rattle.encode.specs.Bytes.{number}
+use Rattle.limits.specs.Limits.{MOST_ITEMS}
+use Rattle.limits.specs.Refusals.{COUNTS, CUT, LIMIT, SUM}
 use Rattle.plain.specs.Rules.{_if_, firstOf}
 use Rattle.plain.proofs.Rules.{kept, whole}
 use Rattle.rle.specs.declared.Walked.{Walked}
 use Rattle.rle.specs.declared.Walked.the-variants.{Total, Refused as WalkRefused}
-use Rattle.rle.specs.declared.Head.{Head}
-use Rattle.rle.specs.declared.Head.the-variants.{Empty, Runs, Refused}
+use Rattle.rle.specs.declared.RunHead.{RunHead}
+use Rattle.rle.specs.declared.RunHead.the-variants.{Empty, Runs, Refused}
 use Rattle.rle.specs.RunLength.{runsIn, countsLength, countsPart, innerPart, walked, walkNumber, runLengthNumber}
 use Rattle.rle.specs.Pieces.{headBy, headFound, numberBy}
 use Rattle.rle.proofs.Walking.{Told, walk-told}
@@ -21,10 +23,10 @@ use Rattle.rle.proofs.Walking.{Told, walk-told}
 -- the rules of the head
 abbrev rules : ℕ → List ℕ → List ℕ
 rules n b =
-    10 if ltb (length b) 8
-    ∷ 3 if ltb 1048576 (runsIn b)
-    ∷ 13 if eqb (runsIn b) 0
-    ∷ 10 if ltb (length b) (8 + countsLength b)
+    CUT if ltb (length b) 8
+    ∷ LIMIT if ltb MOST_ITEMS (runsIn b)
+    ∷ COUNTS if eqb (runsIn b) 0
+    ∷ CUT if ltb (length b) (8 + countsLength b)
     ∷ walkNumber n (walked (runsIn b) (countsPart (countsLength b) b))
     ∷ []
 
@@ -46,15 +48,15 @@ unfolding runLengthNumber headFound numberBy
 head-number inner n b = go (eqb (length b) 0) (eqb n 0)
   where
     go : (t z : Bool)
-        → cond t (16 if not z) (firstOf (rules n b ++ (inner (runsIn b) (innerPart (countsLength b) b) ∷ [])))
-        ≡ numberBy inner b (cond t (cond z Empty (Refused 16)) (headBy (firstOf (rules n b)) (runsIn b) (countsLength b)))
+        → cond t (SUM if not z) (firstOf (rules n b ++ (inner (runsIn b) (innerPart (countsLength b) b) ∷ [])))
+        ≡ numberBy inner b (cond t (cond z Empty (Refused SUM)) (headBy (firstOf (rules n b)) (runsIn b) (countsLength b)))
     go true true = refl
     go true false = refl
     go false z = inner-last inner b (runsIn b) (countsLength b) (rules n b)
 
 -- ---- what the head tells
 pub record Sound (n : ℕ) (b : List ℕ) (runs counts : ℕ) : Type 0 where
-  pub many : runs ≤ 1048576
+  pub many : runs ≤ MOST_ITEMS
   pub some : 0 < runs
   pub room : 8 + counts ≤ length b
   pub runs-read : runs ≡ runsIn b
@@ -63,28 +65,28 @@ pub record Sound (n : ℕ) (b : List ℕ) (runs counts : ℕ) : Type 0 where
 
 total : (n : ℕ) (w : Walked) → Told w → walkNumber n w ≡ 0 → w ≡ Total n
 unfolding walkNumber
-total n (Total t) h e = ap Total (eqb-true t n (not-false _ (whole 16 _ (omega arith) e)))
+total n (Total t) h e = ap Total (eqb-true t n (not-false _ (whole SUM _ (omega arith) e)))
 total n (WalkRefused x) h e = absurd (omega arith)
 
 module _ (n : ℕ) (b : List ℕ) where
   sound : firstOf (rules n b) ≡ 0 → Sound n b (runsIn b) (countsLength b)
   sound h =
-      let a = kept (10 if ltb (length b) 8) _ h in
-      let c = kept (3 if ltb 1048576 (runsIn b)) _ (a .1) in
-      let d = kept (13 if eqb (runsIn b) 0) _ (c .1) in
-      let e = kept (10 if ltb (length b) (8 + countsLength b)) _ (d .1) in
+      let a = kept (CUT if ltb (length b) 8) _ h in
+      let c = kept (LIMIT if ltb MOST_ITEMS (runsIn b)) _ (a .1) in
+      let d = kept (COUNTS if eqb (runsIn b) 0) _ (c .1) in
+      let e = kept (CUT if ltb (length b) (8 + countsLength b)) _ (d .1) in
       let f = kept (walkNumber n (walked (runsIn b) (countsPart (countsLength b) b))) _ (e .1) in
-      let z = eqb-false (runsIn b) 0 (whole 13 _ (omega arith) (d .0)) in
+      let z = eqb-false (runsIn b) 0 (whole COUNTS _ (omega arith) (d .0)) in
       record {
-        many = ltb-false _ _ (whole 3 _ (omega arith) (c .0));
+        many = ltb-false _ _ (whole LIMIT _ (omega arith) (c .0));
         some = omega arith;
-        room = ltb-false _ _ (whole 10 _ (omega arith) (e .0));
+        room = ltb-false _ _ (whole CUT _ (omega arith) (e .0));
         runs-read = refl;
         counts-read = refl;
         sum = total n _ (walk-told (runsIn b) (countsPart (countsLength b) b)) (f .0);
       }
 
-  abbrev Tells : Head → Type 0
+  abbrev Tells : RunHead → Type 0
   Tells Empty = (length b ≡ 0) × (n ≡ 0)
   Tells (Runs runs counts) = Sound n b runs counts
   Tells (Refused e) = 0 < e
@@ -99,7 +101,7 @@ module _ (n : ℕ) (b : List ℕ) where
   tells = go (eqb (length b) 0) refl (eqb n 0) refl
     where
       go : (t : Bool) → eqb (length b) 0 ≡ t → (z : Bool) → eqb n 0 ≡ z
-          → Tells (cond t (cond z Empty (Refused 16)) (headBy (firstOf (rules n b)) (runsIn b) (countsLength b)))
+          → Tells (cond t (cond z Empty (Refused SUM)) (headBy (firstOf (rules n b)) (runsIn b) (countsLength b)))
       go true h true k = (eqb-true _ _ h, eqb-true _ _ k)
       go true h false k = omega arith
       go false h z k = by-number (firstOf (rules n b)) refl
@@ -120,7 +122,7 @@ module _ (n : ℕ) (b : List ℕ) where
     unfolding headFound
     no-bytes h = simp (eq-eqb _ _ z, eq-eqb _ _ h)
 
-    pub no-rows : (n ≡ 0 → ⊥) → Refused 16 ≡ headFound n b
+    pub no-rows : (n ≡ 0 → ⊥) → Refused SUM ≡ headFound n b
     unfolding headFound
     no-rows h = simp (eq-eqb _ _ z, ne-eqb _ _ h)
 
@@ -129,32 +131,32 @@ module _ (n : ℕ) (b : List ℕ) where
     unfolding headFound
     by-rules e q = rw (← q) (simp (ne-eqb _ _ h0))
 
-    pub too-short : length b < 8 → Refused 10 ≡ headFound n b
+    pub too-short : length b < 8 → Refused CUT ≡ headFound n b
     unfolding headBy firstOf
-    too-short h = by-rules 10 (simp (lt-ltb _ _ h))
+    too-short h = by-rules CUT (simp (lt-ltb _ _ h))
 
     module _ (h1 : 8 ≤ length b) {runs : ℕ} (e1 : runs ≡ number (take 4 (drop 0 b))) where
       runs-is : runsIn b ≡ runs
       unfolding runsIn
       runs-is = sym e1
 
-      pub too-many : 1048576 < runs → Refused 3 ≡ headFound n b
+      pub too-many : MOST_ITEMS < runs → Refused LIMIT ≡ headFound n b
       unfolding headBy firstOf
-      too-many h = by-rules 3 (rw runs-is (simp (le-ltb _ _ h1, lt-ltb _ _ h)))
+      too-many h = by-rules LIMIT (rw runs-is (simp (le-ltb _ _ h1, lt-ltb _ _ h)))
 
-      module _ (h2 : runs ≤ 1048576) where
-        pub no-runs : runs ≡ 0 → Refused 13 ≡ headFound n b
+      module _ (h2 : runs ≤ MOST_ITEMS) where
+        pub no-runs : runs ≡ 0 → Refused COUNTS ≡ headFound n b
         unfolding headBy firstOf
-        no-runs h = by-rules 13 (rw runs-is (simp (le-ltb _ _ h1, le-ltb _ _ h2, eq-eqb _ _ h)))
+        no-runs h = by-rules COUNTS (rw runs-is (simp (le-ltb _ _ h1, le-ltb _ _ h2, eq-eqb _ _ h)))
 
         module _ (h3 : runs ≡ 0 → ⊥) {counts : ℕ} (e2 : counts ≡ number (take 4 (drop 4 b))) where
           counts-is : countsLength b ≡ counts
           unfolding countsLength
           counts-is = sym e2
 
-          pub cut-short : length b < 8 + counts → Refused 10 ≡ headFound n b
+          pub cut-short : length b < 8 + counts → Refused CUT ≡ headFound n b
           unfolding headBy firstOf
-          cut-short h = by-rules 10 (rw (runs-is, counts-is) (simp (le-ltb _ _ h1, le-ltb _ _ h2, ne-eqb _ _ h3, lt-ltb _ _ h)))
+          cut-short h = by-rules CUT (rw (runs-is, counts-is) (simp (le-ltb _ _ h1, le-ltb _ _ h2, ne-eqb _ _ h3, lt-ltb _ _ h)))
 
           -- the counts were walked in their part of the block
           module _ (h4 : 8 + counts ≤ length b) {w : Walked} (e3 : w ≡ walked runs (take (8 + counts - 8) (drop 8 b))) where
@@ -177,9 +179,9 @@ module _ (n : ℕ) (b : List ℕ) where
                 some (suc x) z p = rw z (by-walk (suc x) (rw q z))
 
             module _ {t : ℕ} (q : w ≡ Total t) where
-              pub sum-wrong : (t ≡ n → ⊥) → Refused 16 ≡ headFound n b
+              pub sum-wrong : (t ≡ n → ⊥) → Refused SUM ≡ headFound n b
               unfolding headBy walkNumber
-              sum-wrong h = by-walk 16 (rw q (simp (ne-eqb _ _ h)))
+              sum-wrong h = by-walk SUM (rw q (simp (ne-eqb _ _ h)))
 
               pub sum-right : t ≡ n → Runs runs counts ≡ headFound n b
               unfolding headBy walkNumber

@@ -8,14 +8,14 @@ use lib.Dec.{ltb}
 use lib.ListN.{replicate}
 use borrow.Author.Tests.{lt-ltb, le-ltb, ltb-true, ltb-false}
 use Rattle.rle.specs.declared.Spot.{Spot}
-use Rattle.rle.specs.declared.Held.{Held}
-use Rattle.rle.specs.declared.Held.the-variants.{Rows as HeldRows, Wrong}
+use Rattle.rle.specs.declared.Rest.{Rest}
+use Rattle.rle.specs.declared.Rest.the-variants.{Rows as RestRows, Wrong}
 use Rattle.rle.specs.declared.Piece.{Piece}
 use Rattle.rle.specs.declared.Piece.the-variants.{Rows, Stuck}
 use Rattle.rle.specs.Stepping.{spot, stuck, before, andThen, here, stepsFrom}
-use Rattle.rle.specs.Pieces.{looked, pieceBy, pieceIn, stepsIn}
-use Rattle.rle.proofs.Laws.{nextIn, steps-more, Room, coded-room}
-use Rattle.rle.proofs.Looking.{Found, found, wrong-stuck, found-in, found-past}
+use Rattle.rle.specs.Pieces.{restOf, pieceBy, pieceIn, stepsIn}
+use Rattle.rle.proofs.Steps.{nextIn, steps-more, Room, coded-room}
+use Rattle.rle.proofs.RestOfRun.{Found, found, wrong-stuck, found-in, found-past}
 
 -- the three pieces that there are: a row by itself, as many rows of a run as are wanted, and all rows that are left of a run
 data Cut (runs : ℕ) (counts : List ℕ) (s : Spot) (n : ℕ) : Bool → ℕ → Spot → Type 0 where
@@ -27,11 +27,11 @@ abbrev Tells : Bool → ℕ → List ℕ → Spot → ℕ → Piece → Type 0
 Tells coded runs counts s n (Rows k t) = Cut runs counts s n coded k t
 Tells coded runs counts s n Stuck = stepsIn coded runs counts n s ≡ stuck
 
-held-tells : (runs : ℕ) (counts : List ℕ) (s : Spot) (n : ℕ) → 0 < n
-    → (a : Held) → a ≡ looked (here runs counts s) (s .taken) → Tells true runs counts s n (pieceBy a s n)
+rest-tells : (runs : ℕ) (counts : List ℕ) (s : Spot) (n : ℕ) → 0 < n
+    → (a : Rest) → a ≡ restOf (here runs counts s) (s .taken) → Tells true runs counts s n (pieceBy a s n)
 unfolding pieceBy stepsIn
-held-tells runs counts s n p Wrong e = wrong-stuck runs counts s e n p refl
-held-tells runs counts s n p (HeldRows free len) e = go (ltb n free) refl
+rest-tells runs counts s n p Wrong e = wrong-stuck runs counts s e n p refl
+rest-tells runs counts s n p (RestRows free len) e = go (ltb n free) refl
   where
     f : Found runs counts s free len
     f = found runs counts s e refl
@@ -43,7 +43,7 @@ held-tells runs counts s n p (HeldRows free len) e = go (ltb n free) refl
 
 tells : (coded : Bool) (runs : ℕ) (counts : List ℕ) (s : Spot) (n : ℕ) → 0 < n → Tells coded runs counts s n (pieceIn coded runs counts s n)
 unfolding pieceIn
-tells true runs counts s n p = held-tells runs counts s n p _ refl
+tells true runs counts s n p = rest-tells runs counts s n p _ refl
 tells false runs counts s n p = alone
 
 -- ---- what a piece says
@@ -118,12 +118,12 @@ module _ (coded : Bool) (runs : ℕ) (counts : List ℕ) (s : Spot) (left : ℕ)
   unfolding pieceIn
   gives-alone h = rw h
 
-  module _ (h : coded ≡ true) {a : Held} (e : a ≡ looked (here runs counts s) (s .taken)) where
+  module _ (h : coded ≡ true) {a : Rest} (e : a ≡ restOf (here runs counts s) (s .taken)) where
     pub gives-none : a ≡ Wrong → Stuck ≡ pieceIn coded runs counts s left
     unfolding pieceIn pieceBy
     gives-none b = rw (h, ← e, b)
 
-    module _ {free len : ℕ} (b : a ≡ HeldRows free len) where
+    module _ {free len : ℕ} (b : a ≡ RestRows free len) where
       pub gives-part : left < free → Rows left (spot (s .run) (s .at) (s .taken + left)) ≡ pieceIn coded runs counts s left
       unfolding pieceIn pieceBy
       gives-part l = rw (h, ← e, b) (simp (lt-ltb _ _ l))

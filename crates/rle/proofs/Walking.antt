@@ -9,13 +9,14 @@ use lib.Dec.{eqb}
 use lib.ListN.{length, drop, drop-of-length-le}
 use lib.Seq.{drop-cons, drop-drop}
 use borrow.Author.Tests.{eq-eqb, ne-eqb}
+use Rattle.limits.specs.Refusals.{COUNTS, VARINT}
 use Rattle.varint.specs.declared.Count.{Count}
 use Rattle.varint.specs.declared.Count.the-variants.{Number, Bad}
 use Rattle.varint.specs.Varint.{countOf, countAt}
 use Rattle.varint.proofs.Within.{at-within, at-small}
 use Rattle.rle.specs.declared.Walked.{Walked}
 use Rattle.rle.specs.declared.Walked.the-variants.{Total, Refused}
-use Rattle.rle.specs.RunLength.{plus, counted, walked}
+use Rattle.rle.specs.RunLength.{plus, walkedPast, walked}
 
 -- ---- a refusal's number is not 0; of a sum nothing is said
 abbrev pub Told : Walked → Type 0
@@ -27,12 +28,12 @@ unfolding plus
 told-plus v (Total t) h = tt
 told-plus v (Refused e) h = h
 
-told-counted : (c : Count) (rest : ℕ → Walked) → ((len : ℕ) → Told (rest len)) → Told (counted c rest)
-unfolding counted
+told-counted : (c : Count) (rest : ℕ → Walked) → ((len : ℕ) → Told (rest len)) → Told (walkedPast c rest)
+unfolding walkedPast
 told-counted Bad rest h = omega arith
 told-counted (Number v len) rest h = go (eqb v 0)
   where
-    go : (b : Bool) → Told (cond b (Refused 13) (plus v (rest len)))
+    go : (b : Bool) → Told (cond b (Refused COUNTS) (plus v (rest len)))
     go true = omega arith
     go false = told-plus v (rest len) (h len)
 
@@ -57,35 +58,35 @@ plus-zero (Refused e) = refl
 
 module _ (s : List ℕ) (at : ℕ) where
   -- out of bytes before a run
-  pub used-up : (left : ℕ) → 0 < left → length s ≤ at → walked left (drop at s) ≡ Refused 13
+  pub used-up : (left : ℕ) → 0 < left → length s ≤ at → walked left (drop at s) ≡ Refused COUNTS
   unfolding walked
   used-up zero p h = absurd (omega arith)
   used-up (suc n) p h = rw (drop-of-length-le s {i = at} h)
 
-  step : (n : ℕ) → at < length s → walked (suc n) (drop at s) ≡ counted (countAt s at) (λ len. walked n (drop len (drop at s)))
+  step : (n : ℕ) → at < length s → walked (suc n) (drop at s) ≡ walkedPast (countAt s at) (λ len. walked n (drop len (drop at s)))
   unfolding walked countAt
   step n h = rw (drop-cons s at 0 h)
 
-  pub bad-run : (left : ℕ) → 0 < left → at < length s → Bad ≡ countAt s at → walked left (drop at s) ≡ Refused 12
-  unfolding counted
+  pub bad-run : (left : ℕ) → 0 < left → at < length s → Bad ≡ countAt s at → walked left (drop at s) ≡ Refused VARINT
+  unfolding walkedPast
   bad-run zero p h e = absurd (omega arith)
   bad-run (suc n) p h e = step n h ∙ rw (← e)
 
   pub zero-run : (left v len : ℕ) → 0 < left → at < length s → Number v len ≡ countAt s at → v ≡ 0
-      → walked left (drop at s) ≡ Refused 13
-  unfolding counted
+      → walked left (drop at s) ≡ Refused COUNTS
+  unfolding walkedPast
   zero-run zero v len p h e z = absurd (omega arith)
   zero-run (suc n) v len p h e z = step n h ∙ rw (← e) (simp (eq-eqb _ _ z))
 
   pub good-run : (left v len : ℕ) → 0 < left → at < length s → Number v len ≡ countAt s at → (v ≡ 0 → ⊥)
       → walked left (drop at s) ≡ plus v (walked (left - 1) (drop (at + len) s))
-  unfolding counted
+  unfolding walkedPast
   good-run zero v len p h e z = absurd (omega arith)
   good-run (suc n) v len p h e z =
       let m : suc n - 1 ≡ n = omega arith in
       step n h ∙ rw (← e, m) (simp (ne-eqb _ _ z, drop-drop))
 
-  left-over : at < length s → walked 0 (drop at s) ≡ Refused 13
+  left-over : at < length s → walked 0 (drop at s) ≡ Refused COUNTS
   unfolding walked
   left-over h = rw (drop-cons s at 0 h)
 
@@ -108,7 +109,7 @@ module _ {s : List ℕ} {runs at total left : ℕ} (w : Walking s runs at total 
   unfolding plus
   refused h = sym (w .whole ∙ rw h)
 
-  pub walk-over : left ≤ 0 → at < length s → Refused 13 ≡ walked runs s
+  pub walk-over : left ≤ 0 → at < length s → Refused COUNTS ≡ walked runs s
   walk-over p h = let z : left ≡ 0 = omega arith in refused (rw z (left-over s at h))
 
   pub walk-sum : left ≤ 0 → length s ≤ at → Total total ≡ walked runs s
@@ -116,15 +117,15 @@ module _ {s : List ℕ} {runs at total left : ℕ} (w : Walking s runs at total 
   walk-sum p h = let z : left ≡ 0 = omega arith in sym (w .whole ∙ rw (z, all-used s at h, add-zero))
 
   module _ (p : 0 < left) where
-    pub walk-used : length s ≤ at → Refused 13 ≡ walked runs s
+    pub walk-used : length s ≤ at → Refused COUNTS ≡ walked runs s
     walk-used h = refused (used-up s at left p h)
 
     module _ (h : at < length s) {r : Count} (e : r ≡ countAt s at) where
-      pub walk-bad : r ≡ Bad → Refused 12 ≡ walked runs s
+      pub walk-bad : r ≡ Bad → Refused VARINT ≡ walked runs s
       walk-bad b = refused (bad-run s at left p h (sym b ∙ e))
 
       module _ {v len : ℕ} (b : r ≡ Number v len) where
-        pub walk-zero : v ≡ 0 → Refused 13 ≡ walked runs s
+        pub walk-zero : v ≡ 0 → Refused COUNTS ≡ walked runs s
         walk-zero z = refused (zero-run s at left v len p h (sym b ∙ e) z)
 
         pub walk-within : (1 ≤ len) × (at + len ≤ length s)

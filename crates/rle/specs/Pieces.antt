@@ -4,15 +4,17 @@ use mathlib.Core.List.{List, [], _∷_}
 use mathlib.Core.Bool.{Bool, cond}
 use lib.Dec.{ltb, eqb}
 use lib.ListN.{length}
+use Rattle.limits.specs.Limits.{MOST_ITEMS}
+use Rattle.limits.specs.Refusals.{COUNTS, CUT, LIMIT, SUM}
 use Rattle.plain.specs.Rules.{_if_, firstOf}
 use Rattle.plain.specs.Plain.{places}
 use Rattle.varint.specs.declared.Count.{Count}
 use Rattle.varint.specs.declared.Count.the-variants.{Number, Bad}
 use Rattle.rle.specs.declared.Spot.{Spot}
-use Rattle.rle.specs.declared.Head.{Head}
-use Rattle.rle.specs.declared.Head.the-variants.{Empty, Runs, Refused}
-use Rattle.rle.specs.declared.Held.{Held}
-use Rattle.rle.specs.declared.Held.the-variants.{Rows as HeldRows, Wrong}
+use Rattle.rle.specs.declared.RunHead.{RunHead}
+use Rattle.rle.specs.declared.RunHead.the-variants.{Empty, Runs, Refused}
+use Rattle.rle.specs.declared.Rest.{Rest}
+use Rattle.rle.specs.declared.Rest.the-variants.{Rows as RestRows, Wrong}
 use Rattle.rle.specs.declared.Piece.{Piece}
 use Rattle.rle.specs.declared.Piece.the-variants.{Rows, Stuck}
 use Rattle.rle.specs.declared.Reached.{Reached}
@@ -21,46 +23,46 @@ use Rattle.rle.specs.RunLength.{runsIn, countsLength, countsPart, innerP
 use Rattle.rle.specs.Stepping.{spot, Steps, stuck, rows, here, stepsFrom}
 
 -- ---- the head
-unfoldable pub headBy : ℕ → ℕ → ℕ → Head
+unfoldable pub headBy : ℕ → ℕ → ℕ → RunHead
 headBy zero runs counts = Runs runs counts
 headBy (suc e) runs counts = Refused (suc e)
 
 -- all rules of a run-length block but the inner ones
-unfoldable pub headFound : ℕ → List ℕ → Head
+unfoldable pub headFound : ℕ → List ℕ → RunHead
 headFound n b =
-    cond (eqb (length b) 0) (cond (eqb n 0) Empty (Refused 16))
+    cond (eqb (length b) 0) (cond (eqb n 0) Empty (Refused SUM))
     (headBy
     (firstOf (
-    10 if ltb (length b) 8
-    ∷ 3 if ltb 1048576 (runsIn b)
-    ∷ 13 if eqb (runsIn b) 0
-    ∷ 10 if ltb (length b) (8 + countsLength b)
+    CUT if ltb (length b) 8
+    ∷ LIMIT if ltb MOST_ITEMS (runsIn b)
+    ∷ COUNTS if eqb (runsIn b) 0
+    ∷ CUT if ltb (length b) (8 + countsLength b)
     ∷ walkNumber n (walked (runsIn b) (countsPart (countsLength b) b))
     ∷ []))
     (runsIn b)
     (countsLength b))
 
 -- the number that the inner rules give where the head is sound
-unfoldable pub numberBy : (ℕ → List ℕ → ℕ) → List ℕ → Head → ℕ
+unfoldable pub numberBy : (ℕ → List ℕ → ℕ) → List ℕ → RunHead → ℕ
 numberBy inner b Empty = 0
 numberBy inner b (Runs runs counts) = inner runs (innerPart counts b)
 numberBy inner b (Refused e) = e
 
 -- ---- pieces
 -- the rows still in a run, and the bytes of its count
-unfoldable pub looked : Count → ℕ → Held
-looked Bad taken = Wrong
-looked (Number v len) taken = cond (eqb v 0) Wrong (cond (ltb v taken) Wrong (HeldRows (v - taken) len))
+unfoldable pub restOf : Count → ℕ → Rest
+restOf Bad taken = Wrong
+restOf (Number v len) taken = cond (eqb v 0) Wrong (cond (ltb v taken) Wrong (RestRows (v - taken) len))
 
-unfoldable pub pieceBy : Held → Spot → ℕ → Piece
+unfoldable pub pieceBy : Rest → Spot → ℕ → Piece
 pieceBy Wrong s left = Stuck
-pieceBy (HeldRows free len) s left =
+pieceBy (RestRows free len) s left =
     cond (ltb left free) (Rows left (spot (s .run) (s .at) (s .taken + left))) (Rows free (spot (s .run + 1) (s .at + len) 0))
 
 -- rows that are not coded by runs are each a run of their own
 unfoldable pub pieceIn : Bool → ℕ → List ℕ → Spot → ℕ → Piece
 pieceIn coded runs counts s left =
-    cond coded (pieceBy (looked (here runs counts s) (s .taken)) s left) (Rows 1 (spot (s .run + 1) (s .at) (s .taken)))
+    cond coded (pieceBy (restOf (here runs counts s) (s .taken)) s left) (Rows 1 (spot (s .run + 1) (s .at) (s .taken)))
 
 unfoldable pub stepsIn : Bool → ℕ → List ℕ → ℕ → Spot → Steps
 stepsIn coded runs counts n s =
@@ -77,6 +79,6 @@ Fine stuck = ⊥
 Fine (rows is t) = Unit
 
 -- the runs that they lie in
-unfoldable pub runsOf : Steps → List ℕ
-runsOf stuck = []
-runsOf (rows is t) = is
+unfoldable pub stepRuns : Steps → List ℕ
+stepRuns stuck = []
+stepRuns (rows is t) = is

@@ -5,6 +5,8 @@ use mathlib.Core.List.{List, [], _∷_, _++_, map}
 use lib.Dec.{ltb, eqb}
 use lib.ListN.{length, take, drop, replicate}
 use Rattle.encode.specs.Bytes.{little, number}
+use Rattle.limits.specs.Limits.{MOST_ITEMS, MOST_COUNT}
+use Rattle.limits.specs.Refusals.{COUNTS, CUT, LIMIT, SUM, VARINT}
 use Rattle.varint.specs.declared.Count.{Count}
 use Rattle.varint.specs.declared.Count.the-variants.{Number, Bad}
 use Rattle.varint.specs.Varint.{countOf, spelling}
@@ -25,7 +27,7 @@ run r n = record { row = r; count = n }
 -- a row joins the run if it equals the row before, as given, and the run is below 4,294,967,295
 unfoldable pub runsFrom : Row → ℕ → List Row → List Run
 runsFrom r n [] = run r n ∷ []
-runsFrom r n (x ∷ xs) = cond (same r x && ltb n 4294967295) (runsFrom r (n + 1) xs) (run r n ∷ runsFrom x 1 xs)
+runsFrom r n (x ∷ xs) = cond (same r x && ltb n MOST_COUNT) (runsFrom r (n + 1) xs) (run r n ∷ runsFrom x 1 xs)
 
 unfoldable pub runsOf : List Row → List Run
 runsOf [] = []
@@ -63,31 +65,31 @@ plus v (Total t) = Total (v + t)
 plus v (Refused e) = Refused e
 
 -- a cut varint, or a fifth byte above 0x0F, is 12; a count of 0 is 13; else the walk goes on behind it
-unfoldable pub counted : Count → (ℕ → Walked) → Walked
-counted Bad rest = Refused 12
-counted (Number v len) rest = cond (eqb v 0) (Refused 13) (plus v (rest len))
+unfoldable pub walkedPast : Count → (ℕ → Walked) → Walked
+walkedPast Bad rest = Refused VARINT
+walkedPast (Number v len) rest = cond (eqb v 0) (Refused COUNTS) (plus v (rest len))
 
 -- bytes used up before the last run, and bytes left after it, are 13
 unfoldable pub walked : ℕ → List ℕ → Walked
 walked zero [] = Total 0
-walked zero (b ∷ s) = Refused 13
-walked (suc runs) [] = Refused 13
-walked (suc runs) (b ∷ s) = counted (countOf (b ∷ s)) (λ len. walked runs (drop len (b ∷ s)))
+walked zero (b ∷ s) = Refused COUNTS
+walked (suc runs) [] = Refused COUNTS
+walked (suc runs) (b ∷ s) = walkedPast (countOf (b ∷ s)) (λ len. walked runs (drop len (b ∷ s)))
 
 -- sum not n
 unfoldable pub walkNumber : ℕ → Walked → ℕ
-walkNumber n (Total t) = 16 if not (eqb t n)
+walkNumber n (Total t) = SUM if not (eqb t n)
 walkNumber n (Refused e) = e
 
 -- ---- the rules: no bytes is sound for n = 0, else 16; then in this order, and last the inner rules with one item a run
 unfoldable pub runLengthNumber : (ℕ → List ℕ → ℕ) → ℕ → List ℕ → ℕ
 runLengthNumber inner n b =
-    cond (eqb (length b) 0) (16 if not (eqb n 0))
+    cond (eqb (length b) 0) (SUM if not (eqb n 0))
     (firstOf (
-    10 if ltb (length b) 8
-    ∷ 3 if ltb 1048576 (runsIn b)
-    ∷ 13 if eqb (runsIn b) 0
-    ∷ 10 if ltb (length b) (8 + countsLength b)
+    CUT if ltb (length b) 8
+    ∷ LIMIT if ltb MOST_ITEMS (runsIn b)
+    ∷ COUNTS if eqb (runsIn b) 0
+    ∷ CUT if ltb (length b) (8 + countsLength b)
     ∷ walkNumber n (walked (runsIn b) (countsPart (countsLength b) b))
     ∷ inner (runsIn b) (innerPart (countsLength b) b)
     ∷ []))

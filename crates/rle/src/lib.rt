@@ -1,11 +1,14 @@
 // Run-length blocks: the head, the walk over the counts, and steps from run to run.
+use limits::MOST_ITEMS;
+use limits::refusal;
 use varint::Count;
 ghost use mathlib.Core.Path.{_≡_};
 ghost use Prim.Native.Nat.{_≤_};
 ghost use lib.ListN.{length};
+ghost use Rattle.limits.specs.Limits.{MOST_BYTES, MOST_ITEMS};
 ghost use Rattle.rle.specs.RunLength.{walked};
 ghost use Rattle.rle.specs.Stepping.{here, stepsFrom};
-ghost use Rattle.rle.specs.Pieces.{headFound, looked, pieceIn, reached};
+ghost use Rattle.rle.specs.Pieces.{headFound, restOf, pieceIn, reached};
 
 // What a walk over the counts comes to: their sum, or the number of the first fault met.
 pub enum Walked {
@@ -14,13 +17,14 @@ pub enum Walked {
 }
 
 // What opening finds at the head: no block at all, the numbers of runs and of bytes of the counts, or a fault.
-pub enum Head {
+pub enum RunHead {
     Empty,
     Runs { runs: usize, counts: usize },
     Refused(u8),
 }
 
 // A place in the runs: the run, the byte at which its count begins, and the rows already taken of it.
+#[repr(C)]
 pub struct Spot {
     pub run: usize,
     pub at: usize,
@@ -28,7 +32,7 @@ pub struct Spot {
 }
 
 // The rows still in a run and the bytes of its count; or its count is missing or wrong.
-pub enum Held {
+pub enum Rest {
     Rows { free: usize, len: usize },
     Wrong,
 }
@@ -47,7 +51,7 @@ pub enum Reached {
 
 // Walks the counts of `runs` runs: none is 0, and they fill `s`.
 pub fn walk(s: &[u8], runs: usize) -> Walked
-    requires { ⌜ length (now s) ≤ 16777216 ⌝ }
+    requires { ⌜ length (now s) ≤ MOST_BYTES ⌝ }
     ensures { λ r. ⌜ r ≡ walked runs (now (s .entry)) ⌝ }
 {
     let mut at: usize = 0;
@@ -55,84 +59,84 @@ pub fn walk(s: &[u8], runs: usize) -> Walked
     let mut left = runs;
     while 0 < left {
         if s.len() <= at {
-            return Walked::Refused(13);
+            return Walked::Refused(refusal::COUNTS);
         }
         let count = varint::decode_u32(s, at);
         let Count::Number { value, len } = count else {
-            return Walked::Refused(12);
+            return Walked::Refused(refusal::VARINT);
         };
         if value == 0 {
-            return Walked::Refused(13);
+            return Walked::Refused(refusal::COUNTS);
         }
         total += value as u64;
         at += len;
         left -= 1;
     }
     if at < s.len() {
-        return Walked::Refused(13);
+        return Walked::Refused(refusal::COUNTS);
     }
     Walked::Total { rows: total }
 }
 
 // Tests all that comes before the inner block.
-pub fn find_head(rows: u64, s: &[u8]) -> Head
-    requires { ⌜ length (now s) ≤ 16777216 ⌝ }
+pub fn find_head(rows: u64, s: &[u8]) -> RunHead
+    requires { ⌜ length (now s) ≤ MOST_BYTES ⌝ }
     ensures { λ r. ⌜ r ≡ headFound rows (now (s .entry)) ⌝ }
 {
     let n = s.len();
     if n == 0 {
         if rows == 0 {
-            return Head::Empty;
+            return RunHead::Empty;
         }
-        return Head::Refused(16);
+        return RunHead::Refused(refusal::SUM);
     }
     if n < 8 {
-        return Head::Refused(10);
+        return RunHead::Refused(refusal::CUT);
     }
     let runs = plain::u32_at(s, 0);
-    if 1048576 < runs {
-        return Head::Refused(3);
+    if MOST_ITEMS < runs {
+        return RunHead::Refused(refusal::LIMIT);
     }
     if runs == 0 {
-        return Head::Refused(13);
+        return RunHead::Refused(refusal::COUNTS);
     }
     let counts = plain::u32_at(s, 4);
     let end = 8 + counts;
     if n < end {
-        return Head::Refused(10);
+        return RunHead::Refused(refusal::CUT);
     }
     let sum = walk(&s[8..end], runs);
     match sum {
-        Walked::Refused(e) => Head::Refused(e),
+        Walked::Refused(e) => RunHead::Refused(e),
         Walked::Total { rows: total } => {
             if total == rows {
-                Head::Runs { runs, counts }
+                RunHead::Runs { runs, counts }
             } else {
-                Head::Refused(16)
+                RunHead::Refused(refusal::SUM)
             }
         }
     }
 }
 
 // Looks at the count of the run at a place.
-pub fn look(counts: &[u8], runs: usize, s: Spot) -> Held
-    ensures { λ r. ⌜ r ≡ looked (here runs (now (counts .entry)) s) (s .taken) ⌝ }
+pub fn rest_of(counts: &[u8], runs: usize, s: Spot) -> Rest
+    ensures { λ r. ⌜ r ≡ restOf (here runs (now (counts .entry)) s) (s .taken) ⌝ }
 {
     if runs <= s.run {
-        return Held::Wrong;
+        return Rest::Wrong;
     }
     let count = varint::decode_u32(counts, s.at);
     let Count::Number { value, len } = count else {
-        return Held::Wrong;
+        return Rest::Wrong;
     };
     let rows = value as usize;
     if rows == 0 {
-        return Held::Wrong;
+        return Rest::Wrong;
     }
     if rows < s.taken {
-        return Held::Wrong;
+        return Rest::Wrong;
     }
-    Held::Rows {
+    Rest::Rows {
         free: rows - s.taken,
         len,
     }
@@ -140,7 +144,7 @@ pub fn look(counts: &[u8], runs: usize, s: Spot) -> Held
 
 // Up to `left` rows of the run at a place. Where rows are not coded by runs, each is a run of its own.
 pub fn take_piece(coded: bool, counts: &[u8], runs: usize, s: Spot, left: usize) -> Piece
-    requires { ⌜ s .run ≤ 1048576 ⌝ }
+    requires { ⌜ s .run ≤ MOST_ITEMS ⌝ }
     ensures { λ r. ⌜ r ≡ pieceIn coded runs (now (counts .entry)) s left ⌝ }
 {
     if !coded {
@@ -153,8 +157,8 @@ pub fn take_piece(coded: bool, counts: &[u8], runs: usize, s: Spot, left: usize)
             },
         };
     }
-    let held = look(counts, runs, s);
-    let Held::Rows { free, len } = held else {
+    let rest = rest_of(counts, runs, s);
+    let Rest::Rows { free, len } = rest else {
         return Piece::Stuck;
     };
     if left < free {
@@ -179,7 +183,7 @@ pub fn take_piece(coded: bool, counts: &[u8], runs: usize, s: Spot, left: usize)
 
 // Passes over `n` rows, run by run.
 pub fn advance(counts: &[u8], runs: usize, from: Spot, n: usize) -> Reached
-    requires { ⌜ runs ≤ 1048576 ⌝ }
+    requires { ⌜ runs ≤ MOST_ITEMS ⌝ }
     ensures { λ r. ⌜ r ≡ reached (stepsFrom runs (now (counts .entry)) n from) ⌝ }
 {
     let mut run = from.run;
@@ -187,8 +191,8 @@ pub fn advance(counts: &[u8], runs: usize, from: Spot, n: usize) -> Reached
     let mut taken = from.taken;
     let mut left = n;
     while 0 < left {
-        let held = look(counts, runs, Spot { run, at, taken });
-        let Held::Rows { free, len } = held else {
+        let rest = rest_of(counts, runs, Spot { run, at, taken });
+        let Rest::Rows { free, len } = rest else {
             return Reached::Stuck;
         };
         if left < free {

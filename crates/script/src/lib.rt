@@ -123,3 +123,11 @@ pub fn show_bytes(s: &[u8]) {
         i += 1;
     }
 }
+
+// A refusal's number. Of what is done, nothing.
+pub fn refused(number: u8) {
+    if number != 0 {
+        say(b" refused");
+        show_byte(number);
+    }
+}

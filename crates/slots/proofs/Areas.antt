@@ -51,11 +51,13 @@ module _ (i bit : ℕ) (flags : List ℕ) {byte : ℕ} where
 
 -- ---- the length and the flag of the row
 module _ (k : Kind) (present : Bool) (v : ℤ) (bs : List ℕ) where
-  pub len-found : (i : ℕ) (lens : List ℕ) {lens′ : List ℕ} (len : ℕ) → len ≡ length (bytesIn (cond present (bytes bs) null)) → lens′ ≡ lensWith k i len lens → lens′ ≡ lensWith k i (length (bytesIn (rowOf k present v bs))) lens
+  pub len-found : (i : ℕ) (lens : List ℕ) {lens′ : List ℕ} (len : ℕ) → len ≡ length (bytesIn (cond present (bytes bs) null))
+      → lens′ ≡ lensWith k i len lens → lens′ ≡ lensWith k i (length (bytesIn (rowOf k present v bs))) lens
   unfolding lensWith rowOf valueOf
   len-found i lens {lens′} len e h = go k (rw e at h)
     where
-      go : (j : Kind) → lens′ ≡ lensWith j i (length (bytesIn (cond present (bytes bs) null))) lens → lens′ ≡ lensWith j i (length (bytesIn (rowOf j present v bs))) lens
+      go : (j : Kind) → lens′ ≡ lensWith j i (length (bytesIn (cond present (bytes bs) null))) lens
+          → lens′ ≡ lensWith j i (length (bytesIn (rowOf j present v bs))) lens
       go (Fixed p) g = g
       go (Char w) g = g
       go Blob g = g
@@ -71,7 +73,8 @@ module _ (k : Kind) (present : Bool) (v : ℤ) (bs : List ℕ) where
       go j false = refl
 
   module _ (i : ℕ) (flags : List ℕ) (flagged : Bool) where
-    pub flag-found : {flags′ : List ℕ} → flagged ≡ true → flags′ ≡ flagsWith i (cond present 1 0) flags → flags′ ≡ cond flagged (flagsWith i (presence (rowOf k present v bs)) flags) flags
+    pub flag-found : {flags′ : List ℕ} → flagged ≡ true → flags′ ≡ flagsWith i (cond present 1 0) flags
+        → flags′ ≡ cond flagged (flagsWith i (presence (rowOf k present v bs)) flags) flags
     flag-found t h = rw (t, presence-of) h
 
     pub flag-kept : flagged ≡ false → flags ≡ cond flagged (flagsWith i (presence (rowOf k present v bs)) flags) flags

@@ -36,7 +36,8 @@ module _ (k : Kind) (present : Bool) (v : ℤ) (bs : List ℕ) where
   fits-none t = rw t (null-fits k)
 
   -- a signed argument reaches the callee as its bits read back
-  pub fits-fixed : (p : Primitive) → k ≡ Fixed p → present ≡ true → SFits w64 v → {r : Bool} → r ≡ takes p (toZ w64 (ofZ w64 v)) → r ≡ fits k (rowOf k present v bs)
+  pub fits-fixed : (p : Primitive) → k ≡ Fixed p → present ≡ true → SFits w64 v
+      → {r : Bool} → r ≡ takes p (toZ w64 (ofZ w64 v)) → r ≡ fits k (rowOf k present v bs)
   unfolding rowOf valueOf fits
   fits-fixed p e t f h = rw (e, t) (h ∙ ap (takes p) (toZ-ofZ f))
 
@@ -87,7 +88,8 @@ module _ (d : List ℕ) (at : ℕ) where
     unfolding itemOf
     fixed-room = rw item-length at m
 
-    encoded-put : {item d′ : List ℕ} (z : ℤ) → z ≡ intIn (cond present (int v) null) → item ≡ inEight (encoded p z) → d′ ≡ sets d at (take (widthOf p) item) → d′ ≡ over d at (itemOf (Fixed p) (cond present (int v) null))
+    encoded-put : {item d′ : List ℕ} (z : ℤ) → z ≡ intIn (cond present (int v) null) → item ≡ inEight (encoded p z)
+        → d′ ≡ sets d at (take (widthOf p) item) → d′ ≡ over d at (itemOf (Fixed p) (cond present (int v) null))
     unfolding itemOf
     encoded-put z q i h =
         h
@@ -96,11 +98,13 @@ module _ (d : List ℕ) (at : ℕ) where
         ∙ over-sets (itemOf (Fixed p) (cond present (int v) null)) d at m
 
     -- a signed number reaches a callee as its bits read back
-    pub fixed-put : {item d′ : List ℕ} → present ≡ true → SFits w64 v → item ≡ inEight (encoded p (toZ w64 (ofZ w64 v))) → d′ ≡ sets d at (take (widthOf p) item) → d′ ≡ over d at (itemOf (Fixed p) (cond present (int v) null))
+    pub fixed-put : {item d′ : List ℕ} → present ≡ true → SFits w64 v → item ≡ inEight (encoded p (toZ w64 (ofZ w64 v)))
+        → d′ ≡ sets d at (take (widthOf p) item) → d′ ≡ over d at (itemOf (Fixed p) (cond present (int v) null))
     unfolding intIn
     fixed-put t f = encoded-put (toZ w64 (ofZ w64 v)) (rw t (toZ-ofZ f))
 
-    pub default-put : {item d′ : List ℕ} → present ≡ false → (z : ℤ) → z ≡ defaultValue → item ≡ inEight (encoded p (toZ w64 (ofZ w64 z))) → d′ ≡ sets d at (take (widthOf p) item) → d′ ≡ over d at (itemOf (Fixed p) (cond present (int v) null))
+    pub default-put : {item d′ : List ℕ} → present ≡ false → (z : ℤ) → z ≡ defaultValue → item ≡ inEight (encoded p (toZ w64 (ofZ w64 z)))
+        → d′ ≡ sets d at (take (widthOf p) item) → d′ ≡ over d at (itemOf (Fixed p) (cond present (int v) null))
     unfolding intIn
     default-put t z e = encoded-put (toZ w64 (ofZ w64 z)) (rw (t, e))
 
@@ -109,7 +113,8 @@ module _ (d : List ℕ) (at : ℕ) where
     bytes-put m h = h ∙ ap (sets d at) (take-length bs) ∙ over-sets bs d at m
 
     -- bytes, then zeros
-    padded-put : (n : ℕ) → at + length (bs ++ replicate n 0) ≤ length d → {d₁ d₂ : List ℕ} → d₁ ≡ sets d at (take (length bs) (drop 0 bs)) → d₂ ≡ sets d₁ (at + length bs) (replicate n 0) → d₂ ≡ over d at (bs ++ replicate n 0)
+    padded-put : (n : ℕ) → at + length (bs ++ replicate n 0) ≤ length d → {d₁ d₂ : List ℕ} → d₁ ≡ sets d at (take (length bs) (drop 0 bs))
+        → d₂ ≡ sets d₁ (at + length bs) (replicate n 0) → d₂ ≡ over d at (bs ++ replicate n 0)
     padded-put n m h g =
         g
         ∙ ap (λ (l : List ℕ). sets l (at + length bs) (replicate n 0)) (h ∙ ap (sets d at) (take-length bs))
@@ -118,7 +123,9 @@ module _ (d : List ℕ) (at : ℕ) where
 
 -- ---- the item of a char, given or null; of a blob
 module _ (present : Bool) (bs d : List ℕ) (at : ℕ) where
-  module _ (w : ℕ) (f : fits (Char w) (cond present (bytes bs) null) ≡ true) (m : at + length (itemOf (Char w) (cond present (bytes bs) null)) ≤ length d) where
+  module _
+      (w : ℕ) (f : fits (Char w) (cond present (bytes bs) null) ≡ true)
+      (m : at + length (itemOf (Char w) (cond present (bytes bs) null)) ≤ length d) where
     pub char-room : at + w ≤ length d
     char-room = let e = char-length w (cond present (bytes bs) null) f in omega arith
 
@@ -126,11 +133,13 @@ module _ (present : Bool) (bs d : List ℕ) (at : ℕ) where
     unfolding bytesIn
     char-short t = rw t at (char-most w (cond present (bytes bs) null) f)
 
-    pub char-put : present ≡ true → {d₁ d₂ : List ℕ} → d₁ ≡ sets d at (take (length bs) (drop 0 bs)) → d₂ ≡ sets d₁ (at + length bs) (replicate (w - length bs) 0) → d₂ ≡ over d at (itemOf (Char w) (cond present (bytes bs) null))
+    pub char-put : present ≡ true → {d₁ d₂ : List ℕ} → d₁ ≡ sets d at (take (length bs) (drop 0 bs))
+        → d₂ ≡ sets d₁ (at + length bs) (replicate (w - length bs) 0) → d₂ ≡ over d at (itemOf (Char w) (cond present (bytes bs) null))
     unfolding itemOf bytesIn
     char-put t h g = rw t (padded-put d at bs (w - length bs) (rw t at m) h g)
 
-    pub char-none : present ≡ false → {d′ : List ℕ} → d′ ≡ sets d at (replicate w 0) → d′ ≡ over d at (itemOf (Char w) (cond present (bytes bs) null))
+    pub char-none : present ≡ false → {d′ : List ℕ} → d′ ≡ sets d at (replicate w 0)
+        → d′ ≡ over d at (itemOf (Char w) (cond present (bytes bs) null))
     unfolding itemOf bytesIn
     char-none t h = let z : w - 0 ≡ w = omega arith in rw (t, z) (h ∙ over-sets (replicate w 0) d at (rw (t, z) at m))
 
@@ -139,7 +148,8 @@ module _ (present : Bool) (bs d : List ℕ) (at : ℕ) where
     unfolding itemOf bytesIn
     blob-room t = rw t at m
 
-    pub blob-put : present ≡ true → {d′ : List ℕ} → d′ ≡ sets d at (take (length bs) (drop 0 bs)) → d′ ≡ over d at (itemOf Blob (cond present (bytes bs) null))
+    pub blob-put : present ≡ true → {d′ : List ℕ} → d′ ≡ sets d at (take (length bs) (drop 0 bs))
+        → d′ ≡ over d at (itemOf Blob (cond present (bytes bs) null))
     unfolding itemOf bytesIn
     blob-put t h = rw t (bytes-put d at bs (rw t at m) h)
 
@@ -148,17 +158,20 @@ module _ (present : Bool) (bs d : List ℕ) (at : ℕ) where
   blob-none t = rw t (sym (over-none d at))
 
 -- ---- the item of the kind that was found
-pub char-fits : (k : Kind) (present : Bool) (v : ℤ) (bs : List ℕ) (w : ℕ) → k ≡ Char w → fits k (rowOf k present v bs) ≡ true → fits (Char w) (cond present (bytes bs) null) ≡ true
+pub char-fits : (k : Kind) (present : Bool) (v : ℤ) (bs : List ℕ) (w : ℕ) → k ≡ Char w → fits k (rowOf k present v bs) ≡ true
+    → fits (Char w) (cond present (bytes bs) null) ≡ true
 unfolding rowOf valueOf
 char-fits k present v bs w e h = rw e at h
 
 module _ (k : Kind) (present : Bool) (v : ℤ) (bs d : List ℕ) (at : ℕ) where
   module _ (p : Primitive) (e : k ≡ Fixed p) (f : SFits w64 v) where
-    pub fixed-asked : at + length (itemOf k (rowOf k present v bs)) ≤ length d → at + length (itemOf (Fixed p) (cond present (int (toZ w64 (ofZ w64 v))) null)) ≤ length d
+    pub fixed-asked : at + length (itemOf k (rowOf k present v bs)) ≤ length d
+        → at + length (itemOf (Fixed p) (cond present (int (toZ w64 (ofZ w64 v))) null)) ≤ length d
     unfolding rowOf valueOf
     fixed-asked m = rw (toZ-ofZ f) (rw e at m)
 
-    pub fixed-found : {d′ : List ℕ} → d′ ≡ over d at (itemOf (Fixed p) (cond present (int (toZ w64 (ofZ w64 v))) null)) → d′ ≡ over d at (itemOf k (rowOf k present v bs))
+    pub fixed-found : {d′ : List ℕ} → d′ ≡ over d at (itemOf (Fixed p) (cond present (int (toZ w64 (ofZ w64 v))) null))
+        → d′ ≡ over d at (itemOf k (rowOf k present v bs))
     unfolding rowOf valueOf
     fixed-found h = rw e (rw (toZ-ofZ f) at h)
 
@@ -189,5 +202,6 @@ module _ (k : Kind) (present : Bool) (v : ℤ) (bs d : List ℕ) (at : ℕ) (f :
       → (fits k (rowOf k present (toZ w64 (ofZ w64 v)) bs) ≡ true) × (at + length (itemOf k (rowOf k present (toZ w64 (ofZ w64 v)) bs)) ≤ length d)
   row-asked h end e m = rw same-row (h, omega arith)
 
-  pub row-put : {d′ : List ℕ} → d′ ≡ over d at (itemOf k (rowOf k present (toZ w64 (ofZ w64 v)) bs)) → d′ ≡ over d at (itemOf k (rowOf k present v bs))
+  pub row-put : {d′ : List ℕ} → d′ ≡ over d at (itemOf k (rowOf k present (toZ w64 (ofZ w64 v)) bs))
+      → d′ ≡ over d at (itemOf k (rowOf k present v bs))
   row-put h = rw same-row at h

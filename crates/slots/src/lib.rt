@@ -1,6 +1,7 @@
 // What an append writes into lent memory: an item with its end, its length and its flag, and the slots of its run.
 use encode::Kind;
 use encode::Primitive;
+use encode::Shape;
 ghost use mathlib.Core.Path.{_≡_};
 ghost use mathlib.Core.Bool.{true, false, cond, not, _&&_};
 ghost use Prim.Native.Nat.{ℕ, _+_, _/_, _<_, _≤_, _^_};
@@ -9,6 +10,7 @@ ghost use lib.Seq.{sets};
 ghost use Rattle.area.specs.Area.{over};
 ghost use Rattle.encode.specs.Kinds.{widthOf};
 ghost use Rattle.encode.specs.declared.Kind.the-variants.{Fixed, Char, Blob};
+ghost use Rattle.limits.specs.Limits.{MOST_COUNT};
 ghost use Rattle.plain.specs.Rows.{null, int, bytes, rowOf, fits, bytesIn};
 ghost use Rattle.plain.specs.Plain.{itemOf};
 ghost use Rattle.nullable.specs.Nullable.{presence};
@@ -59,13 +61,12 @@ fn put_fixed(p: Primitive, item: [u8; 8], items: &mut [u8], at: usize)
     requires { ⌜ at + widthOf p ≤ length (now items) ⌝ }
     ensures { λ _. ⌜ now (items .exit) ≡ sets (now (items .entry)) at (take (widthOf p) item) ⌝ }
 {
-    match p {
-        Primitive::Bool => area::put1(item, items, at),
-        Primitive::I16 => area::put2(item, items, at),
-        Primitive::I32 | Primitive::Date => area::put4(item, items, at),
-        Primitive::I64 | Primitive::Timestamp | Primitive::TimestampTz | Primitive::Interval => {
-            area::put8(item, items, at)
-        }
+    let shape = p.shape();
+    match shape {
+        Shape::Bool => area::put1(item, items, at),
+        Shape::Low2 => area::put2(item, items, at),
+        Shape::Low4 | Shape::High4 => area::put4(item, items, at),
+        Shape::Low8 | Shape::High8 => area::put8(item, items, at),
     }
 }
 
@@ -83,7 +84,8 @@ fn put_value(p: Primitive, present: bool, value: i64, items: &mut [u8], at: usiz
 
 // The bytes of a row, if it is not null, and zeros up to the width.
 fn put_char(width: usize, present: bool, item: &[u8], items: &mut [u8], at: usize)
-    requires { ⌜ (fits (Char width) (cond present (bytes (now item)) null) ≡ true) × (at + length (itemOf (Char width) (cond present (bytes (now item)) null)) ≤ length (now items)) ⌝ }
+    requires { ⌜ (fits (Char width) (cond present (bytes (now item)) null) ≡ true)
+        × (at + length (itemOf (Char width) (cond present (bytes (now item)) null)) ≤ length (now items)) ⌝ }
     ensures { λ _. ⌜ now (items .exit) ≡ over (now (items .entry)) at (itemOf (Char width) (cond present (bytes (now (item .entry))) null)) ⌝ }
 {
     if present {
@@ -105,7 +107,8 @@ fn put_blob(present: bool, item: &[u8], items: &mut [u8], at: usize)
 }
 
 fn put_item(kind: Kind, present: bool, value: i64, item: &[u8], items: &mut [u8], at: usize)
-    requires { ⌜ (fits kind (rowOf kind present value (now item)) ≡ true) × (at + length (itemOf kind (rowOf kind present value (now item))) ≤ length (now items)) ⌝ }
+    requires { ⌜ (fits kind (rowOf kind present value (now item)) ≡ true)
+        × (at + length (itemOf kind (rowOf kind present value (now item))) ≤ length (now items)) ⌝ }
     ensures { λ _. ⌜ now (items .exit) ≡ over (now (items .entry)) at (itemOf kind (rowOf kind present value (now (item .entry)))) ⌝ }
 {
     match kind {
@@ -184,10 +187,17 @@ pub fn write_item(
     flags: &mut [u8],
     lens: &mut [u8],
 )
-    requires { ⌜ (fits kind (rowOf kind present value (now item)) ≡ true) × (end ≡ at + length (itemOf kind (rowOf kind present value (now item)))) × (end ≤ length (now items)) × (end < 2 ^ 32) × (kind ≡ Blob → i < length (now ends)) × ((w : ℕ) → kind ≡ Char w → i < length (now lens)) × (flagged ≡ true → i / 8 < length (now flags)) ⌝ }
+    requires { ⌜ (fits kind (rowOf kind present value (now item)) ≡ true)
+        × (end ≡ at + length (itemOf kind (rowOf kind present value (now item))))
+        × (end ≤ length (now items))
+        × (end < 2 ^ 32)
+        × (kind ≡ Blob → i < length (now ends))
+        × ((w : ℕ) → kind ≡ Char w → i < length (now lens))
+        × (flagged ≡ true → i / 8 < length (now flags)) ⌝ }
     ensures { λ _. ⌜ now (items .exit) ≡ over (now (items .entry)) at (itemOf kind (rowOf kind present value (now (item .entry)))) ⌝ }
     ensures { λ _. ⌜ now (ends .exit) ≡ endsWith kind i end (now (ends .entry)) ⌝ }
-    ensures { λ _. ⌜ now (flags .exit) ≡ cond flagged (flagsWith i (presence (rowOf kind present value (now (item .entry)))) (now (flags .entry))) (now (flags .entry)) ⌝ }
+    ensures { λ _. ⌜ now (flags .exit)
+        ≡ cond flagged (flagsWith i (presence (rowOf kind present value (now (item .entry)))) (now (flags .entry))) (now (flags .entry)) ⌝ }
     ensures { λ _. ⌜ now (lens .exit) ≡ lensWith kind i (length (bytesIn (rowOf kind present value (now (item .entry))))) (now (lens .entry)) ⌝ }
 {
     put_item(kind, present, value, item, items, at);
@@ -210,7 +220,9 @@ pub fn write_run(
     counts: &mut [u32],
     keys: &mut [i32],
 )
-    requires { ⌜ (joins ≡ true → (0 < n) × (n ≤ length (now counts)) × (last < 4294967295)) × (joins ≡ false → n < length (now counts)) × ((keyed && not joins) ≡ true → n < length (now keys)) ⌝ }
+    requires { ⌜ (joins ≡ true → (0 < n) × (n ≤ length (now counts)) × (last < MOST_COUNT))
+        × (joins ≡ false → n < length (now counts))
+        × ((keyed && not joins) ≡ true → n < length (now keys)) ⌝ }
     ensures { λ _. ⌜ now (counts .exit) ≡ countsWith n last joins (now (counts .entry)) ⌝ }
     ensures { λ _. ⌜ now (keys .exit) ≡ cond (keyed && not joins) (set (now (keys .entry)) n key) (now (keys .entry)) ⌝ }
 {

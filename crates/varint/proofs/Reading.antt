@@ -9,7 +9,7 @@ use lib.ListN.{length, getD, drop, drop-of-length-le}
 use lib.Seq.{drop-cons}
 use borrow.Author.Tests.{lt-ltb, le-ltb}
 use Rattle.varint.specs.declared.Count.the-variants.{Number, Bad}
-use Rattle.varint.specs.Varint.{more, countWithin, held, countOf, countAt}
+use Rattle.varint.specs.Varint.{more, countWithin, in32Bits, countOf, countAt}
 use Rattle.area.proofs.Laws.{lt-or-ge}
 
 count-nil : (k : ℕ) → countWithin k [] ≡ Bad
@@ -72,15 +72,15 @@ module _ (s : List ℕ) (at : ℕ) where
 
   -- ---- a number that came out, and fits; one that doesn't; and none
   done : (v w n : ℕ) → countWithin 5 (drop at s) ≡ Number w n → v ≡ w → v < 2 ^ 32 → Number v n ≡ countAt s at
-  unfolding countAt countOf held
+  unfolding countAt countOf in32Bits
   done v w n e p h = rw (e, ← p) (simp (lt-ltb _ _ h))
 
   large : (w n : ℕ) → countWithin 5 (drop at s) ≡ Number w n → 2 ^ 32 ≤ w → Bad ≡ countAt s at
-  unfolding countAt countOf held
+  unfolding countAt countOf in32Bits
   large w n e h = rw e (simp (le-ltb _ _ h))
 
   bad : countWithin 5 (drop at s) ≡ Bad → Bad ≡ countAt s at
-  unfolding countAt countOf held
+  unfolding countAt countOf in32Bits
   bad e = rw e
 
   -- ---- the returns of a number

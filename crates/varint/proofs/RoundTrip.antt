@@ -13,7 +13,7 @@ use borrow.Author.Tests.{lt-ltb, le-ltb}
 use Rattle.area.specs.Area.{over}
 use Rattle.varint.specs.declared.Count.{Count}
 use Rattle.varint.specs.declared.Count.the-variants.{Number}
-use Rattle.varint.specs.Varint.{more, countWithin, held, countOf, countAt, spellWithin, spelling}
+use Rattle.varint.specs.Varint.{more, countWithin, in32Bits, countOf, countAt, spellWithin, spelling}
 use Rattle.area.proofs.Laws.{lt-or-ge}
 use Rattle.varint.proofs.Spelling.{spell-last, spell-more, size1, size2, size3, size4, size5}
 
@@ -45,7 +45,7 @@ count-spell (suc k) v rest h = go (count-spell k (v / 128) rest (omega arith))
 
 -- ---- the round trip: at the head of a list, and at a place of an area that it was laid over
 pub round-trip : (v : ℕ) (rest : List ℕ) → v < 2 ^ 32 → countOf (spelling v ++ rest) ≡ Number v (length (spelling v))
-unfolding countOf spelling held
+unfolding countOf spelling in32Bits
 round-trip v rest h = rw (count-spell 4 v rest (omega arith)) (simp (lt-ltb _ _ h))
 
 pub round-trip-at : (area : List ℕ) (at v : ℕ) → v < 2 ^ 32 → at + length (spelling v) ≤ length area

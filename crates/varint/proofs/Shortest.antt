@@ -10,7 +10,7 @@ use lib.ListN.{length, getD}
 use borrow.Author.Tests.{ltb-true, ltb-false}
 use Rattle.varint.specs.declared.Count.{Count}
 use Rattle.varint.specs.declared.Count.the-variants.{Number, Bad}
-use Rattle.varint.specs.Varint.{more, countWithin, held, countOf, spellWithin, spelling}
+use Rattle.varint.specs.Varint.{more, countWithin, in32Bits, countOf, spellWithin, spelling}
 use Rattle.area.proofs.Laws.{lt-or-ge}
 use Rattle.varint.proofs.Spelling.{spell-last, spell-more}
 
@@ -37,15 +37,15 @@ long-within (suc k) (b ∷ s) h = go (long-within k s (λ i. h (suc i))) (ltb b 
     go ih true e = rw (spell-last k b (ltb-true _ _ e)) (omega arith)
     go ih false e = long-more k (b - 128) (countWithin k s) (omega (arith, h 0, ltb-false b 128 e)) ih
 
-long-held : (k : ℕ) (r : Count) → Long k r → Long k (held r)
-unfolding held
-long-held k (Number v n) h = go (ltb v (2 ^ 32))
+long-in32 : (k : ℕ) (r : Count) → Long k r → Long k (in32Bits r)
+unfolding in32Bits
+long-in32 k (Number v n) h = go (ltb v (2 ^ 32))
   where
     go : (t : Bool) → Long k (cond t (Number v n) Bad)
     go true = h
     go false = tt
-long-held k Bad h = tt
+long-in32 k Bad h = tt
 
 pub shortest : (s : List ℕ) (v n : ℕ) → ((i : ℕ) → getD s i 0 < 256) → Number v n ≡ countOf s → length (spelling v) ≤ n
 unfolding countOf spelling
-shortest s v n h e = subst (λ (r : Count). Long 5 r) (sym e) (long-held 5 (countWithin 5 s) (long-within 5 s h))
+shortest s v n h e = subst (λ (r : Count). Long 5 r) (sym e) (long-in32 5 (countWithin 5 s) (long-within 5 s h))

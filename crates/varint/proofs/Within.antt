@@ -9,7 +9,7 @@ use lib.ListN.{length, drop, length-drop}
 use borrow.Author.Tests.{ltb-true}
 use Rattle.varint.specs.declared.Count.{Count}
 use Rattle.varint.specs.declared.Count.the-variants.{Number, Bad}
-use Rattle.varint.specs.Varint.{more, countWithin, held, countOf, countAt}
+use Rattle.varint.specs.Varint.{more, countWithin, in32Bits, countOf, countAt}
 
 -- of a number: it takes at least one byte, and no more than are allowed or there; of Bad nothing is said
 abbrev Sized : ℕ → ℕ → Count → Type 0
@@ -31,34 +31,34 @@ sized-within (suc k) (b ∷ s) = go (sized-within k s) (ltb b 128)
     go ih true = omega arith
     go ih false = sized-more (b - 128) k (length s) (countWithin k s) ih
 
--- what `held` lets pass is as before, and of 32 bits
+-- what `in32Bits` lets pass is as before, and of 32 bits
 abbrev Small : Count → Type 0
 Small (Number v n) = v < 2 ^ 32
 Small Bad = Unit
 
-held-sized : (k m : ℕ) (r : Count) → Sized k m r → Sized k m (held r)
-unfolding held
-held-sized k m (Number v n) h = go (ltb v (2 ^ 32))
+in32-sized : (k m : ℕ) (r : Count) → Sized k m r → Sized k m (in32Bits r)
+unfolding in32Bits
+in32-sized k m (Number v n) h = go (ltb v (2 ^ 32))
   where
     go : (t : Bool) → Sized k m (cond t (Number v n) Bad)
     go true = h
     go false = tt
-held-sized k m Bad h = tt
+in32-sized k m Bad h = tt
 
-held-small : (r : Count) → Small (held r)
-unfolding held
-held-small (Number v n) = go (ltb v (2 ^ 32)) refl
+in32-small : (r : Count) → Small (in32Bits r)
+unfolding in32Bits
+in32-small (Number v n) = go (ltb v (2 ^ 32)) refl
   where
     go : (t : Bool) → ltb v (2 ^ 32) ≡ t → Small (cond t (Number v n) Bad)
     go true e = ltb-true _ _ e
     go false e = tt
-held-small Bad = tt
+in32-small Bad = tt
 
 -- ---- the laws
 module _ (s : List ℕ) (v n : ℕ) (e : Number v n ≡ countOf s) where
   sized : Sized 5 (length s) (Number v n)
   unfolding countOf
-  sized = subst (λ (r : Count). Sized 5 (length s) r) (sym e) (held-sized _ _ _ (sized-within 5 s))
+  sized = subst (λ (r : Count). Sized 5 (length s) r) (sym e) (in32-sized _ _ _ (sized-within 5 s))
 
   pub count-within : (1 ≤ n) × (n ≤ length s)
   count-within = (sized .0, sized .2)
@@ -68,7 +68,7 @@ module _ (s : List ℕ) (v n : ℕ) (e : Number v n ≡ countOf s) where
 
   pub count-small : v < 2 ^ 32
   unfolding countOf
-  count-small = subst (λ (r : Count). Small r) (sym e) (held-small _)
+  count-small = subst (λ (r : Count). Small r) (sym e) (in32-small _)
 
 -- ---- and at a place
 module _ (s : List ℕ) (at v n : ℕ) (e : Number v n ≡ countAt s at) where

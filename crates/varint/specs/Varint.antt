@@ -24,13 +24,13 @@ countWithin (suc k) [] = Bad
 countWithin (suc k) (b ∷ s) = cond (ltb b 128) (Number b 1) (more (b - 128) (countWithin k s))
 
 -- a number that doesn't fit 32 bits is bad: with five bytes, just a fifth byte above 0x0F
-unfoldable pub held : Count → Count
-held (Number v n) = cond (ltb v (2 ^ 32)) (Number v n) Bad
-held Bad = Bad
+unfoldable pub in32Bits : Count → Count
+in32Bits (Number v n) = cond (ltb v (2 ^ 32)) (Number v n) Bad
+in32Bits Bad = Bad
 
 -- the count at the head of a list, and at a place
 unfoldable pub countOf : List ℕ → Count
-countOf s = held (countWithin 5 s)
+countOf s = in32Bits (countWithin 5 s)
 
 unfoldable pub countAt : List ℕ → ℕ → Count
 countAt s at = countOf (drop at s)
@@ -49,5 +49,5 @@ spelling v = spellWithin 5 v
 unfoldable pub wrote : List ℕ → ℕ → List ℕ → Wrote
 wrote area at vs = cond (fitsAt area at (length vs)) (Bytes (length vs)) NoRoom
 
-unfoldable pub written : List ℕ → ℕ → List ℕ → List ℕ
-written area at vs = cond (fitsAt area at (length vs)) (over area at vs) area
+unfoldable pub wroteOver : List ℕ → ℕ → List ℕ → List ℕ
+wroteOver area at vs = cond (fitsAt area at (length vs)) (over area at vs) area

@@ -1,7 +1,8 @@
 // Run counts as varints: LEB128 of a u32, as encode_32 and decode_u32_slice of the original.
 ghost use mathlib.Core.Path.{_≡_};
-ghost use lib.ListN.{length};
-ghost use Rattle.varint.specs.Varint.{countAt, spelling, wrote, written};
+ghost use Prim.Native.Nat.{_+_, _*_, _<_, _≤_};
+ghost use lib.ListN.{length, getD};
+ghost use Rattle.varint.specs.Varint.{countAt, spelling, wrote, wroteOver};
 
 // A run count, taken apart into its number and its length in bytes; or no count.
 pub enum Count {
@@ -36,11 +37,25 @@ pub fn decode_u32(s: &[u8], at: usize) -> Count
     if b1 < 128 {
         return Count::Number { value: v1, len: 2 };
     }
+    longer(s, at, v1 - 16384)
+}
+
+// The same where the first two bytes are passed, each of which says that the number goes on. Without their top bits they are
+// worth `low`.
+fn longer(s: &[u8], at: usize, low: u32) -> Count
+    requires { ⌜ (at + 1 < length (now s))
+        × (128 ≤ getD (now s) at 0)
+        × (128 ≤ getD (now s) (at + 1) 0)
+        × (low + 16512 ≡ getD (now s) at 0 + 128 * getD (now s) (at + 1) 0)
+        × (low < 16384) ⌝ }
+    ensures { λ r. ⌜ r ≡ countAt (now (s .entry)) at ⌝ }
+{
+    let room = s.len() - at;
     if room <= 2 {
         return Count::Bad;
     }
     let b2 = area::wide(s[at + 2]);
-    let v2 = (v1 - 16384) + b2 * 16384;
+    let v2 = low + b2 * 16384;
     if b2 < 128 {
         return Count::Number { value: v2, len: 3 };
     }
@@ -84,7 +99,7 @@ pub fn size(value: u32) -> usize
 
 // Writes the shortest spelling of `value` at `at`, or nothing where it doesn't fit.
 pub fn encode_u32(value: u32, dst: &mut [u8], at: usize) -> Wrote
-    ensures { λ r. ⌜ (r ≡ wrote (now (dst .entry)) at (spelling value)) × (now (dst .exit) ≡ written (now (dst .entry)) at (spelling value)) ⌝ }
+    ensures { λ r. ⌜ (r ≡ wrote (now (dst .entry)) at (spelling value)) × (now (dst .exit) ≡ wroteOver (now (dst .entry)) at (spelling value)) ⌝ }
 {
     let n = size(value);
     if dst.len() < at {

@@ -13,9 +13,8 @@ use Rattle.block.specs.declared.Given.{Given}
 use Rattle.block.specs.declared.Opened.{Opened}
 use Rattle.block.specs.declared.Opened.the-variants.{Open, Refused}
 use Rattle.block.specs.declared.Skipped.{Skipped}
-use Rattle.block.specs.Reading.{Areas, Batch, refusedBatch, skippedIn, skipped, batched}
-use Rattle.capi.specs.declared.Opening.{Opening}
-use Rattle.capi.specs.Answers.{openingOf}
+use Rattle.block.specs.Reading.{Areas, Batch, refusedBatch, skippedIn, skipped, batched, openingOf}
+use Rattle.block.specs.declared.Opening.{Opening}
 use Rattle.view.specs.declared.Steps.{Steps}
 use Rattle.view.specs.Viewing.{batchFrom, readFrom}
 use Rattle.view.specs.Stepwise.{sizeAfter, firstRefusal, Read, stepwise}

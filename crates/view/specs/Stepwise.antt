@@ -5,7 +5,7 @@ use mathlib.Core.List.{List}
 use lib.Dec.{eqb}
 use Rattle.block.specs.declared.Skipped.{Skipped}
 use Rattle.block.specs.Reading.{Areas, Batch, skipped, batched}
-use Rattle.capi.specs.declared.Opening.{Opening}
+use Rattle.block.specs.declared.Opening.{Opening}
 use Rattle.view.specs.declared.Steps.{Steps}
 
 unfoldable pub sizeAfter : ℕ → ℕ → ℕ → ℕ

@@ -4,9 +4,8 @@ use mathlib.Core.Bool.{cond}
 use mathlib.Core.List.{List}
 use lib.Dec.{eqb}
 use Rattle.block.specs.declared.Skipped.{Skipped}
-use Rattle.block.specs.Reading.{Areas, Batch, refusedBatch, opened, skipped, batched}
-use Rattle.capi.specs.declared.Opening.{Opening}
-use Rattle.capi.specs.Answers.{openingOf}
+use Rattle.block.specs.Reading.{Areas, Batch, refusedBatch, opened, skipped, batched, openingOf}
+use Rattle.block.specs.declared.Opening.{Opening}
 
 unfoldable pub batchFrom : Skipped → List ℕ → ℕ → Areas → Batch
 batchFrom s b size a = cond (eqb (s .number) 0) (batched (s .reader) b size a) (refusedBatch (s .number) (s .reader) a)

@@ -3,8 +3,7 @@ use block::Given;
 use block::Left;
 use block::Reader;
 ghost use mathlib.Core.Path.{_≡_};
-ghost use Rattle.block.specs.Reading.{Areas, Batch, areas, opened, skipped, batched, remaining};
-ghost use Rattle.capi.specs.Answers.{openingOf};
+ghost use Rattle.block.specs.Reading.{Areas, Batch, areas, opened, skipped, batched, remaining, openingOf};
 ghost use Rattle.view.specs.Viewing.{readBlock};
 ghost use Rattle.view.specs.Stepwise.{Read, stepwise, sizeAfter, firstRefusal};
 
@@ -37,9 +36,11 @@ pub fn open<'a>(
     rows: usize,
     block: &'a [u8],
 ) -> Viewed<'a>
-    ensures { λ r. ⌜ (r .number ≡ openingOf (opened kind encoding width rows (now (block .entry))) .number) × (r .view .block ≡ block .entry) × (r .view .reader ≡ openingOf (opened kind encoding width rows (now (block .entry))) .reader) ⌝ }
+    ensures { λ r. ⌜ (r .number ≡ openingOf (opened kind encoding width rows (now (block .entry))) .number)
+        × (r .view .block ≡ block .entry)
+        × (r .view .reader ≡ openingOf (opened kind encoding width rows (now (block .entry))) .reader) ⌝ }
 {
-    let opening = capi::idz_open(kind, encoding, width, rows, block);
+    let opening = block::open_by_number(kind, encoding, width, rows, block);
     let reader = opening.reader;
     let view = View { block, reader };
     let number = opening.number;
@@ -49,7 +50,9 @@ pub fn open<'a>(
 impl<'a> View<'a> {
     // Passes over `rows` rows.
     pub fn skip(self, rows: usize) -> Viewed<'a>
-        ensures { λ r. ⌜ (r .number ≡ skipped (self .entry .reader) (now (self .entry .block)) rows .number) × (r .view .block ≡ self .entry .block) × (r .view .reader ≡ skipped (self .entry .reader) (now (self .entry .block)) rows .reader) ⌝ }
+        ensures { λ r. ⌜ (r .number ≡ skipped (self .entry .reader) (now (self .entry .block)) rows .number)
+            × (r .view .block ≡ self .entry .block)
+            × (r .view .reader ≡ skipped (self .entry .reader) (now (self .entry .block)) rows .reader) ⌝ }
     {
         let answer = self.reader.skip(self.block, rows);
         let block = self.block;
@@ -68,11 +71,23 @@ impl<'a> View<'a> {
         ends: &mut [u32],
         bytes: &mut [u8],
     ) -> Taken<'a>
-        ensures { λ r. ⌜ (r .number ≡ batched (self .entry .reader) (now (self .entry .block)) size (areas (now (values .entry)) (now (flags .entry)) (now (ends .entry)) (now (bytes .entry))) .answer .number) × (r .rows ≡ batched (self .entry .reader) (now (self .entry .block)) size (areas (now (values .entry)) (now (flags .entry)) (now (ends .entry)) (now (bytes .entry))) .answer .rows) × (r .bytes ≡ batched (self .entry .reader) (now (self .entry .block)) size (areas (now (values .entry)) (now (flags .entry)) (now (ends .entry)) (now (bytes .entry))) .answer .bytes) × (r .view .block ≡ self .entry .block) × (r .view .reader ≡ batched (self .entry .reader) (now (self .entry .block)) size (areas (now (values .entry)) (now (flags .entry)) (now (ends .entry)) (now (bytes .entry))) .answer .reader) ⌝ }
-        ensures { λ _. ⌜ now (values .exit) ≡ batched (self .entry .reader) (now (self .entry .block)) size (areas (now (values .entry)) (now (flags .entry)) (now (ends .entry)) (now (bytes .entry))) .areas .values ⌝ }
-        ensures { λ _. ⌜ now (flags .exit) ≡ batched (self .entry .reader) (now (self .entry .block)) size (areas (now (values .entry)) (now (flags .entry)) (now (ends .entry)) (now (bytes .entry))) .areas .flags ⌝ }
-        ensures { λ _. ⌜ now (ends .exit) ≡ batched (self .entry .reader) (now (self .entry .block)) size (areas (now (values .entry)) (now (flags .entry)) (now (ends .entry)) (now (bytes .entry))) .areas .ends ⌝ }
-        ensures { λ _. ⌜ now (bytes .exit) ≡ batched (self .entry .reader) (now (self .entry .block)) size (areas (now (values .entry)) (now (flags .entry)) (now (ends .entry)) (now (bytes .entry))) .areas .bytes ⌝ }
+        ensures { λ r. ⌜ (r .number
+            ≡ batched (self .entry .reader) (now (self .entry .block)) size (areas (now (values .entry)) (now (flags .entry)) (now (ends .entry)) (now (bytes .entry))) .answer .number)
+            × (r .rows
+            ≡ batched (self .entry .reader) (now (self .entry .block)) size (areas (now (values .entry)) (now (flags .entry)) (now (ends .entry)) (now (bytes .entry))) .answer .rows)
+            × (r .bytes
+            ≡ batched (self .entry .reader) (now (self .entry .block)) size (areas (now (values .entry)) (now (flags .entry)) (now (ends .entry)) (now (bytes .entry))) .answer .bytes)
+            × (r .view .block ≡ self .entry .block)
+            × (r .view .reader
+            ≡ batched (self .entry .reader) (now (self .entry .block)) size (areas (now (values .entry)) (now (flags .entry)) (now (ends .entry)) (now (bytes .entry))) .answer .reader) ⌝ }
+        ensures { λ _. ⌜ now (values .exit)
+            ≡ batched (self .entry .reader) (now (self .entry .block)) size (areas (now (values .entry)) (now (flags .entry)) (now (ends .entry)) (now (bytes .entry))) .areas .values ⌝ }
+        ensures { λ _. ⌜ now (flags .exit)
+            ≡ batched (self .entry .reader) (now (self .entry .block)) size (areas (now (values .entry)) (now (flags .entry)) (now (ends .entry)) (now (bytes .entry))) .areas .flags ⌝ }
+        ensures { λ _. ⌜ now (ends .exit)
+            ≡ batched (self .entry .reader) (now (self .entry .block)) size (areas (now (values .entry)) (now (flags .entry)) (now (ends .entry)) (now (bytes .entry))) .areas .ends ⌝ }
+        ensures { λ _. ⌜ now (bytes .exit)
+            ≡ batched (self .entry .reader) (now (self .entry .block)) size (areas (now (values .entry)) (now (flags .entry)) (now (ends .entry)) (now (bytes .entry))) .areas .bytes ⌝ }
     {
         let answer = self.reader
             .batch(self.block, size, values, flags, ends, bytes);
@@ -150,11 +165,21 @@ fn go_through(
     ends: &mut [u32],
     bytes: &mut [u8],
 ) -> Steps
-    ensures { λ r. ⌜ r ≡ stepwise (openingOf (opened kind encoding width rows (now (block .entry)))) (now (block .entry)) passed size (areas (now (values .entry)) (now (flags .entry)) (now (ends .entry)) (now (bytes .entry))) .answer ⌝ }
-    ensures { λ _. ⌜ now (values .exit) ≡ stepwise (openingOf (opened kind encoding width rows (now (block .entry)))) (now (block .entry)) passed size (areas (now (values .entry)) (now (flags .entry)) (now (ends .entry)) (now (bytes .entry))) .areas .values ⌝ }
-    ensures { λ _. ⌜ now (flags .exit) ≡ stepwise (openingOf (opened kind encoding width rows (now (block .entry)))) (now (block .entry)) passed size (areas (now (values .entry)) (now (flags .entry)) (now (ends .entry)) (now (bytes .entry))) .areas .flags ⌝ }
-    ensures { λ _. ⌜ now (ends .exit) ≡ stepwise (openingOf (opened kind encoding width rows (now (block .entry)))) (now (block .entry)) passed size (areas (now (values .entry)) (now (flags .entry)) (now (ends .entry)) (now (bytes .entry))) .areas .ends ⌝ }
-    ensures { λ _. ⌜ now (bytes .exit) ≡ stepwise (openingOf (opened kind encoding width rows (now (block .entry)))) (now (block .entry)) passed size (areas (now (values .entry)) (now (flags .entry)) (now (ends .entry)) (now (bytes .entry))) .areas .bytes ⌝ }
+    ensures { λ r. ⌜ r
+        ≡ stepwise (openingOf (opened kind encoding width rows (now (block .entry)))) (now (block .entry)) passed size
+        (areas (now (values .entry)) (now (flags .entry)) (now (ends .entry)) (now (bytes .entry))) .answer ⌝ }
+    ensures { λ _. ⌜ now (values .exit)
+        ≡ stepwise (openingOf (opened kind encoding width rows (now (block .entry)))) (now (block .entry)) passed size
+        (areas (now (values .entry)) (now (flags .entry)) (now (ends .entry)) (now (bytes .entry))) .areas .values ⌝ }
+    ensures { λ _. ⌜ now (flags .exit)
+        ≡ stepwise (openingOf (opened kind encoding width rows (now (block .entry)))) (now (block .entry)) passed size
+        (areas (now (values .entry)) (now (flags .entry)) (now (ends .entry)) (now (bytes .entry))) .areas .flags ⌝ }
+    ensures { λ _. ⌜ now (ends .exit)
+        ≡ stepwise (openingOf (opened kind encoding width rows (now (block .entry)))) (now (block .entry)) passed size
+        (areas (now (values .entry)) (now (flags .entry)) (now (ends .entry)) (now (bytes .entry))) .areas .ends ⌝ }
+    ensures { λ _. ⌜ now (bytes .exit)
+        ≡ stepwise (openingOf (opened kind encoding width rows (now (block .entry)))) (now (block .entry)) passed size
+        (areas (now (values .entry)) (now (flags .entry)) (now (ends .entry)) (now (bytes .entry))) .areas .bytes ⌝ }
 {
     let opened = open(kind, encoding, width, rows, block);
     let skipped = opened.view.skip(passed);
@@ -185,10 +210,14 @@ pub fn read(
     bytes: &mut [u8],
 ) -> Given
     ensures { λ r. ⌜ r ≡ readBlock kind encoding width rows (now (block .entry)) passed size (areas (now (values .entry)) (now (flags .entry)) (now (ends .entry)) (now (bytes .entry))) .answer ⌝ }
-    ensures { λ _. ⌜ now (values .exit) ≡ readBlock kind encoding width rows (now (block .entry)) passed size (areas (now (values .entry)) (now (flags .entry)) (now (ends .entry)) (now (bytes .entry))) .areas .values ⌝ }
-    ensures { λ _. ⌜ now (flags .exit) ≡ readBlock kind encoding width rows (now (block .entry)) passed size (areas (now (values .entry)) (now (flags .entry)) (now (ends .entry)) (now (bytes .entry))) .areas .flags ⌝ }
-    ensures { λ _. ⌜ now (ends .exit) ≡ readBlock kind encoding width rows (now (block .entry)) passed size (areas (now (values .entry)) (now (flags .entry)) (now (ends .entry)) (now (bytes .entry))) .areas .ends ⌝ }
-    ensures { λ _. ⌜ now (bytes .exit) ≡ readBlock kind encoding width rows (now (block .entry)) passed size (areas (now (values .entry)) (now (flags .entry)) (now (ends .entry)) (now (bytes .entry))) .areas .bytes ⌝ }
+    ensures { λ _. ⌜ now (values .exit)
+        ≡ readBlock kind encoding width rows (now (block .entry)) passed size (areas (now (values .entry)) (now (flags .entry)) (now (ends .entry)) (now (bytes .entry))) .areas .values ⌝ }
+    ensures { λ _. ⌜ now (flags .exit)
+        ≡ readBlock kind encoding width rows (now (block .entry)) passed size (areas (now (values .entry)) (now (flags .entry)) (now (ends .entry)) (now (bytes .entry))) .areas .flags ⌝ }
+    ensures { λ _. ⌜ now (ends .exit)
+        ≡ readBlock kind encoding width rows (now (block .entry)) passed size (areas (now (values .entry)) (now (flags .entry)) (now (ends .entry)) (now (bytes .entry))) .areas .ends ⌝ }
+    ensures { λ _. ⌜ now (bytes .exit)
+        ≡ readBlock kind encoding width rows (now (block .entry)) passed size (areas (now (values .entry)) (now (flags .entry)) (now (ends .entry)) (now (bytes .entry))) .areas .bytes ⌝ }
 {
     let steps = go_through(
         kind,

@@ -1,7 +1,7 @@
 -- `put1` meets its contract: the item's first byte is written. Assumes nothing.
 use borrow.Author.Needs.{needs}
 use native.Mathlib.Omega.{arith}
-use Rattle.area.proofs.Putting.{laid, laid-all}
+use Rattle.area.proofs.FirstBytes.{laid, laid-all}
 use Rattle.area.proofs.put1.Statement.{statement}
 use Rattle.area.proofs.put1.Tie as tie
 

@@ -12,58 +12,68 @@ returns : tie.Need-returns
 returns c = laws.runs-wrong _ _ _ (c .before .before .check-runs .ensures) (c .enum-told .given .1)
 
 returns-2 : tie.Need-returns-2
-returns-2 c = let f = c .before .before in laws.no-keys _ _ _ (f .before .before .check-runs .ensures) (f .found .given .1) (c .if1 .taken)
+returns-2 c =
+    let f = c .before .before .before in
+    laws.no-keys _ _ _ (f .before .before .check-runs .ensures) (f .found .given .1) (c .if1 .taken)
+
+-- the place at which the runs were found to be sound
+abbrev found-at : (c : tie.Else1) → tie.After-found
+found-at c = c .before .before .before
 
 -- there are runs, and their keys stand behind the counts
 some :
     (c : tie.Else1)
-    → let a = c .before .before .before .before .before .before .args in
-    let v = c .before .before .found .given .0 in
-    SomeRuns (plainNumber i32) (a .s .now) (v .0) (v .1 .0)
+    → let f = found-at c in
+    let a = f .before .before .before .before .args in
+    let v = f .found .given .0 .0 in
+    SomeRuns (plainNumber i32) (a .s .now) (v .runs) (v .counts)
 some c =
-    let f = c .before .before in
+    let f = found-at c in
     let a = f .before .before .before .before .args in
     laws.some-runs (a .rows) (a .entries) (a .s .now) (f .before .before .check-runs .ensures) (f .found .given .1) (c .if1 .left)
 
 add-end : tie.Need-add-end
-add-end c = let s = some c in omega arith
+add-end c = let s = some (c .before) in omega arith
 
 sub-known : tie.Need-sub-known
-sub-known c = some c .room
+sub-known c = some (c .before) .room
 
 part-known-start : tie.Need-part-known-start
-part-known-start c = some c .room
+part-known-start c = some (c .before) .room
 
 known-requires : tie.Need-known-requires
 known-requires c κs =
-    let f = c .before .before .before in
+    let s = c .before .before in
+    let f = found-at s in
     let a = f .before .before .before .before .args in
     let r = laws.runs-right (a .rows) (a .entries) (a .s .now) (f .before .before .check-runs .ensures) (f .found .given .1) in
-    (r .many, laws.keys-there _ _ _ (some (c .before) .inside))
+    (r .many, laws.keys-there _ _ _ (some s .inside))
 
 returns-3 : tie.Need-returns-3
 returns-3 c =
-    let f = c .before .before .before .before .before in
+    let s = c .before .before .before .before in
+    let f = found-at s in
     laws.keys-right
     _
     _
     _
     (f .before .before .check-runs .ensures)
     (f .found .given .1)
-    (c .before .before .before .if1 .left)
+    (s .if1 .left)
     (c .before .known .ensures)
     (c .if2 .taken)
 
 returns-4 : tie.Need-returns-4
 returns-4 c =
-    let f = c .before .before .before .before .before in
+    let s = c .before .before .before .before in
+    let f = found-at s in
     laws.keys-wrong
     _
     _
     _
     (f .before .before .check-runs .ensures)
     (f .found .given .1)
-    (c .before .before .before .if1 .left)
+    (s .if1 .left)
     (c .before .known .ensures)
     (c .if2 .left)
 

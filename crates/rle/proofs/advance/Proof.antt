@@ -17,51 +17,51 @@ abbrev μ-loop : tie.MeasureT-loop
 loop-holds : tie.Need-loop-holds Inv-loop μ-loop
 loop-holds c = record { whole = refl }
 
-look-requires : tie.Need-look-requires Inv-loop μ-loop
-look-requires c κs = search needs
+rest-of-requires : tie.Need-rest-of-requires Inv-loop μ-loop
+rest-of-requires c κs = search needs
 
-enum-known-held : tie.Need-enum-known-held Inv-loop μ-loop
-enum-known-held c = search needs
+enum-known-rest : tie.Need-enum-known-rest Inv-loop μ-loop
+enum-known-rest c = search needs
 
 enum-told : tie.Need-enum-told Inv-loop μ-loop
 enum-told c = search needs
 
 returns : tie.Need-returns Inv-loop μ-loop
-returns c = laws.going-wrong (c .before .before .before .before .loop .inv) (omega arith) (c .before .before .look .ensures) (c .enum-told .given .1)
+returns c = laws.going-wrong (c .before .before .before .before .loop .inv) (omega arith) (c .before .before .rest-of .ensures) (c .enum-told .given .1)
 
 add-t14 : tie.Need-add-t14 Inv-loop μ-loop
 add-t14 c =
     let d = c .before .before in
-    let f = laws.going-found (d .before .before .before .before .loop .inv) (omega arith) (d .before .before .look .ensures) (d .held .given .1) in
+    let f = laws.going-found (d .before .before .before .before .loop .inv) (omega arith) (d .before .before .rest-of .ensures) (d .rest .given .1) in
     omega arith
 
 returns-2 : tie.Need-returns-2 Inv-loop μ-loop
 returns-2 c =
     let d = c .before .before in
-    laws.going-in (d .before .before .before .before .loop .inv) (omega arith) (d .before .before .look .ensures) (d .held .given .1) (omega arith)
+    laws.going-in (d .before .before .before .before .loop .inv) (omega arith) (d .before .before .rest-of .ensures) (d .rest .given .1) (omega arith)
 
 add-run : tie.Need-add-run Inv-loop μ-loop
 add-run c =
     let d = c .before .before in
-    let f = laws.going-found (d .before .before .before .before .loop .inv) (omega arith) (d .before .before .look .ensures) (d .held .given .1) in
+    let f = laws.going-found (d .before .before .before .before .loop .inv) (omega arith) (d .before .before .rest-of .ensures) (d .rest .given .1) in
     omega arith
 
 add-at : tie.Need-add-at Inv-loop μ-loop
 add-at c =
     let d = c .before .before in
-    let f = laws.going-found (d .before .before .before .before .loop .inv) (omega arith) (d .before .before .look .ensures) (d .held .given .1) in
+    let f = laws.going-found (d .before .before .before .before .loop .inv) (omega arith) (d .before .before .rest-of .ensures) (d .rest .given .1) in
     omega arith
 
 loop-less : tie.Need-loop-less Inv-loop μ-loop
 loop-less c =
     let d = c .before .before in
-    let f = laws.going-found (d .before .before .before .before .loop .inv) (omega arith) (d .before .before .look .ensures) (d .held .given .1) in
+    let f = laws.going-found (d .before .before .before .before .loop .inv) (omega arith) (d .before .before .rest-of .ensures) (d .rest .given .1) in
     omega arith
 
 loop-again : tie.Need-loop-again Inv-loop μ-loop
 loop-again c =
     let d = c .before .before in
-    laws.going-on (d .before .before .before .before .loop .inv) (omega arith) (d .before .before .look .ensures) (d .held .given .1) (omega arith)
+    laws.going-on (d .before .before .before .before .loop .inv) (omega arith) (d .before .before .rest-of .ensures) (d .rest .given .1) (omega arith)
 
 returns-3 : tie.Need-returns-3 Inv-loop μ-loop
 returns-3 c = laws.going-end (c .before .loop .inv) (omega arith)
@@ -73,8 +73,8 @@ advance-spec =
     Inv-loop
     μ-loop
     loop-holds
-    look-requires
-    enum-known-held
+    rest-of-requires
+    enum-known-rest
     enum-told
     returns
     add-t14

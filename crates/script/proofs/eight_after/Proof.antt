@@ -9,7 +9,11 @@ use Rattle.script.proofs.eight_after.Statement.{statement}
 use Rattle.script.proofs.eight_after.Tie as tie
 
 -- eight bytes, each the one at its place
-all-eight : (s : List ℕ) (at b₁ b₂ b₃ b₄ b₅ b₆ b₇ b₈ : ℕ) → b₁ ≡ byteAfter s at 1 → b₂ ≡ byteAfter s at 2 → b₃ ≡ byteAfter s at 3 → b₄ ≡ byteAfter s at 4 → b₅ ≡ byteAfter s at 5 → b₆ ≡ byteAfter s at 6 → b₇ ≡ byteAfter s at 7 → b₈ ≡ byteAfter s at 8 → (b₁ ∷ b₂ ∷ b₃ ∷ b₄ ∷ b₅ ∷ b₆ ∷ b₇ ∷ b₈ ∷ []) ≡ eightAfter s at
+all-eight :
+    (s : List ℕ) (at b₁ b₂ b₃ b₄ b₅ b₆ b₇ b₈ : ℕ)
+    → b₁ ≡ byteAfter s at 1 → b₂ ≡ byteAfter s at 2 → b₃ ≡ byteAfter s at 3 → b₄ ≡ byteAfter s at 4
+    → b₅ ≡ byteAfter s at 5 → b₆ ≡ byteAfter s at 6 → b₇ ≡ byteAfter s at 7 → b₈ ≡ byteAfter s at 8
+    → (b₁ ∷ b₂ ∷ b₃ ∷ b₄ ∷ b₅ ∷ b₆ ∷ b₇ ∷ b₈ ∷ []) ≡ eightAfter s at
 unfolding eightAfter
 all-eight s at b₁ b₂ b₃ b₄ b₅ b₆ b₇ b₈ p₁ p₂ p₃ p₄ p₅ p₆ p₇ p₈ = cc
 

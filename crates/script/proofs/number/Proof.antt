@@ -18,7 +18,9 @@ short : (s : List ℕ) (at b next : ℕ) → b ≡ getD s at 0 → b < 255 → n
 unfolding takenAt
 short s at b next e h p = let u : getD s at 0 < 255 = omega arith in rw (lt-ltb (getD s at 0) 255 u, e, p)
 
-long : (s : List ℕ) (at b v next : ℕ) → b ≡ getD s at 0 → 255 ≤ b → v ≡ numberOf low-first (eightAfter s at) → next ≡ (at + 9) % 2 ^ 64 → _≡_ {A = Taken} (record { value = v; next = next }) (takenAt s at)
+long :
+    (s : List ℕ) (at b v next : ℕ) → b ≡ getD s at 0 → 255 ≤ b → v ≡ numberOf low-first (eightAfter s at)
+    → next ≡ (at + 9) % 2 ^ 64 → _≡_ {A = Taken} (record { value = v; next = next }) (takenAt s at)
 unfolding takenAt
 long s at b v next e h q p = let u : 255 ≤ getD s at 0 = omega arith in rw (le-ltb (getD s at 0) 255 u, q, p)
 

@@ -45,19 +45,19 @@ use denote.Triple.Table.{entered, cited}
 use denote.Triple.Walked.{says, needs, Stays, stay-ref, walkOf, AllGo, goes-ref, Walks, ends-at, walked, walk-meets}
 use denote.Signature.{Slot, plain}
 use denote.Ref.{now}
-use Rattle.build.specs.Needs.{Areas, areas}
-use Rattle.build.specs.Building.{Append, appended}
-use Rattle.build.specs.declared.Builder.{Builder}
-use Rattle.build.specs.declared.Appended.{Appended}
+use Rattle.append.specs.Appending.{Lent, lent}
+use Rattle.builder.specs.Building.{Append, appended}
+use Rattle.builder.specs.declared.Builder.{Builder}
+use Rattle.builder.specs.declared.Appended.{Appended}
 use Rattle.walk.proofs.Said.{stays-said, fits-said, goes-said}
-use Rattle.build.proofs.Builder as T
-use Rattle.build.proofs.Builder.Laws as T′
-use Rattle.build.proofs.Appended as S
-use Rattle.build.proofs.Appended.Laws as S′
-use Rattle.build.proofs.Builder.append as g
-use Rattle.build.proofs.Builder.append.Symbol as g-def
-use Rattle.build.proofs.Builder.append.Symbol.{name as #g}
-use Rattle.build.proofs.Builder.append.Met as g-thm
+use Rattle.builder.proofs.Builder as T
+use Rattle.builder.proofs.Builder.Laws as T′
+use Rattle.builder.proofs.Appended as S
+use Rattle.builder.proofs.Appended.Laws as S′
+use Rattle.builder.proofs.Builder.append as g
+use Rattle.builder.proofs.Builder.append.Symbol as g-def
+use Rattle.builder.proofs.Builder.append.Symbol.{name as #g}
+use Rattle.builder.proofs.Builder.append.Met as g-thm
 use Rattle.server.proofs.append.Key.{name as #f}
 use Rattle.server.proofs.append as f
 use Rattle.server.proofs.append.Statement as stated
@@ -125,25 +125,25 @@ module _ {M : Type 1} (𝓤 : URA M) (H : Heap 𝓤) (A : Atoms 𝓤) (W : Given
 
   -- what the callee ensures
   abbrev E0 : Appended → Lasts g.ended (κs .1) cargs → Type 0
-  E0 r zs = r ≡ appended h (areas (now (a .1 .0)) (now (a .1 .1 .0)) (now (a .1 .1 .1 .0)) (now (a .1 .1 .1 .1 .0)) (now (a .1 .1 .1 .1 .1 .0)) (now (a .1 .1 .1 .1 .1 .1 .0))) (a .1 .1 .1 .1 .1 .1 .1 .0) (a .1 .1 .1 .1 .1 .1 .1 .1 .0) (now (a .1 .1 .1 .1 .1 .1 .1 .1 .1 .0)) .answer
+  E0 r zs = r ≡ appended h (lent (now (a .1 .0)) (now (a .1 .1 .0)) (now (a .1 .1 .1 .0)) (now (a .1 .1 .1 .1 .0)) (now (a .1 .1 .1 .1 .1 .0)) (now (a .1 .1 .1 .1 .1 .1 .0))) (a .1 .1 .1 .1 .1 .1 .1 .0) (a .1 .1 .1 .1 .1 .1 .1 .1 .0) (now (a .1 .1 .1 .1 .1 .1 .1 .1 .1 .0)) .answer
 
   abbrev E1 : Appended → Lasts g.ended (κs .1) cargs → Type 0
-  E1 r zs = zs .1 .0 ≡ appended h (areas (now (a .1 .0)) (now (a .1 .1 .0)) (now (a .1 .1 .1 .0)) (now (a .1 .1 .1 .1 .0)) (now (a .1 .1 .1 .1 .1 .0)) (now (a .1 .1 .1 .1 .1 .1 .0))) (a .1 .1 .1 .1 .1 .1 .1 .0) (a .1 .1 .1 .1 .1 .1 .1 .1 .0) (now (a .1 .1 .1 .1 .1 .1 .1 .1 .1 .0)) .areas .items
+  E1 r zs = zs .1 .0 ≡ appended h (lent (now (a .1 .0)) (now (a .1 .1 .0)) (now (a .1 .1 .1 .0)) (now (a .1 .1 .1 .1 .0)) (now (a .1 .1 .1 .1 .1 .0)) (now (a .1 .1 .1 .1 .1 .1 .0))) (a .1 .1 .1 .1 .1 .1 .1 .0) (a .1 .1 .1 .1 .1 .1 .1 .1 .0) (now (a .1 .1 .1 .1 .1 .1 .1 .1 .1 .0)) .areas .items
 
   abbrev E2 : Appended → Lasts g.ended (κs .1) cargs → Type 0
-  E2 r zs = zs .1 .1 .0 ≡ appended h (areas (now (a .1 .0)) (now (a .1 .1 .0)) (now (a .1 .1 .1 .0)) (now (a .1 .1 .1 .1 .0)) (now (a .1 .1 .1 .1 .1 .0)) (now (a .1 .1 .1 .1 .1 .1 .0))) (a .1 .1 .1 .1 .1 .1 .1 .0) (a .1 .1 .1 .1 .1 .1 .1 .1 .0) (now (a .1 .1 .1 .1 .1 .1 .1 .1 .1 .0)) .areas .ends
+  E2 r zs = zs .1 .1 .0 ≡ appended h (lent (now (a .1 .0)) (now (a .1 .1 .0)) (now (a .1 .1 .1 .0)) (now (a .1 .1 .1 .1 .0)) (now (a .1 .1 .1 .1 .1 .0)) (now (a .1 .1 .1 .1 .1 .1 .0))) (a .1 .1 .1 .1 .1 .1 .1 .0) (a .1 .1 .1 .1 .1 .1 .1 .1 .0) (now (a .1 .1 .1 .1 .1 .1 .1 .1 .1 .0)) .areas .ends
 
   abbrev E3 : Appended → Lasts g.ended (κs .1) cargs → Type 0
-  E3 r zs = zs .1 .1 .1 .0 ≡ appended h (areas (now (a .1 .0)) (now (a .1 .1 .0)) (now (a .1 .1 .1 .0)) (now (a .1 .1 .1 .1 .0)) (now (a .1 .1 .1 .1 .1 .0)) (now (a .1 .1 .1 .1 .1 .1 .0))) (a .1 .1 .1 .1 .1 .1 .1 .0) (a .1 .1 .1 .1 .1 .1 .1 .1 .0) (now (a .1 .1 .1 .1 .1 .1 .1 .1 .1 .0)) .areas .flags
+  E3 r zs = zs .1 .1 .1 .0 ≡ appended h (lent (now (a .1 .0)) (now (a .1 .1 .0)) (now (a .1 .1 .1 .0)) (now (a .1 .1 .1 .1 .0)) (now (a .1 .1 .1 .1 .1 .0)) (now (a .1 .1 .1 .1 .1 .1 .0))) (a .1 .1 .1 .1 .1 .1 .1 .0) (a .1 .1 .1 .1 .1 .1 .1 .1 .0) (now (a .1 .1 .1 .1 .1 .1 .1 .1 .1 .0)) .areas .flags
 
   abbrev E4 : Appended → Lasts g.ended (κs .1) cargs → Type 0
-  E4 r zs = zs .1 .1 .1 .1 .0 ≡ appended h (areas (now (a .1 .0)) (now (a .1 .1 .0)) (now (a .1 .1 .1 .0)) (now (a .1 .1 .1 .1 .0)) (now (a .1 .1 .1 .1 .1 .0)) (now (a .1 .1 .1 .1 .1 .1 .0))) (a .1 .1 .1 .1 .1 .1 .1 .0) (a .1 .1 .1 .1 .1 .1 .1 .1 .0) (now (a .1 .1 .1 .1 .1 .1 .1 .1 .1 .0)) .areas .counts
+  E4 r zs = zs .1 .1 .1 .1 .0 ≡ appended h (lent (now (a .1 .0)) (now (a .1 .1 .0)) (now (a .1 .1 .1 .0)) (now (a .1 .1 .1 .1 .0)) (now (a .1 .1 .1 .1 .1 .0)) (now (a .1 .1 .1 .1 .1 .1 .0))) (a .1 .1 .1 .1 .1 .1 .1 .0) (a .1 .1 .1 .1 .1 .1 .1 .1 .0) (now (a .1 .1 .1 .1 .1 .1 .1 .1 .1 .0)) .areas .counts
 
   abbrev E5 : Appended → Lasts g.ended (κs .1) cargs → Type 0
-  E5 r zs = zs .1 .1 .1 .1 .1 .0 ≡ appended h (areas (now (a .1 .0)) (now (a .1 .1 .0)) (now (a .1 .1 .1 .0)) (now (a .1 .1 .1 .1 .0)) (now (a .1 .1 .1 .1 .1 .0)) (now (a .1 .1 .1 .1 .1 .1 .0))) (a .1 .1 .1 .1 .1 .1 .1 .0) (a .1 .1 .1 .1 .1 .1 .1 .1 .0) (now (a .1 .1 .1 .1 .1 .1 .1 .1 .1 .0)) .areas .keys
+  E5 r zs = zs .1 .1 .1 .1 .1 .0 ≡ appended h (lent (now (a .1 .0)) (now (a .1 .1 .0)) (now (a .1 .1 .1 .0)) (now (a .1 .1 .1 .1 .0)) (now (a .1 .1 .1 .1 .1 .0)) (now (a .1 .1 .1 .1 .1 .1 .0))) (a .1 .1 .1 .1 .1 .1 .1 .0) (a .1 .1 .1 .1 .1 .1 .1 .1 .0) (now (a .1 .1 .1 .1 .1 .1 .1 .1 .1 .0)) .areas .keys
 
   abbrev E6 : Appended → Lasts g.ended (κs .1) cargs → Type 0
-  E6 r zs = zs .1 .1 .1 .1 .1 .1 .0 ≡ appended h (areas (now (a .1 .0)) (now (a .1 .1 .0)) (now (a .1 .1 .1 .0)) (now (a .1 .1 .1 .1 .0)) (now (a .1 .1 .1 .1 .1 .0)) (now (a .1 .1 .1 .1 .1 .1 .0))) (a .1 .1 .1 .1 .1 .1 .1 .0) (a .1 .1 .1 .1 .1 .1 .1 .1 .0) (now (a .1 .1 .1 .1 .1 .1 .1 .1 .1 .0)) .areas .lens
+  E6 r zs = zs .1 .1 .1 .1 .1 .1 .0 ≡ appended h (lent (now (a .1 .0)) (now (a .1 .1 .0)) (now (a .1 .1 .1 .0)) (now (a .1 .1 .1 .1 .0)) (now (a .1 .1 .1 .1 .1 .0)) (now (a .1 .1 .1 .1 .1 .1 .0))) (a .1 .1 .1 .1 .1 .1 .1 .0) (a .1 .1 .1 .1 .1 .1 .1 .1 .0) (now (a .1 .1 .1 .1 .1 .1 .1 .1 .1 .0)) .areas .lens
 
   exits : (r : Appended) (zs : Lasts g.ended (κs .1) cargs) → r .number < 2 ^ 8 → E0 r zs → E1 r zs → E2 r zs → E3 r zs → E4 r zs → E5 r zs → E6 r zs
       → ent 𝓤 (⋆ 𝓤 H A (‵ (fobs γ (T.the-row .coded .code (r .builder))) ∷ ‵ (fbor (κs .0) (Body (mem T.the-row) b o γ)) ∷ ‵ (flft (κs .0) (qs .0)) ∷ raw Toks ∷ ‵ (lastsOf κs tail-slots (f.ended .kept .1) (a .1) (zs .1)) ∷ [])) (Post (vint w8 (r .number)))
@@ -153,14 +153,14 @@ module _ {M : Type 1} (𝓤 : URA M) (H : Heap 𝓤) (A : Atoms 𝓤) (W : Given
       owned ! u8 (Is u8) (uint-makes 𝓤 H A W w8) (r .number) _ (refl, fits) $ feqI ! (List Val) (vptr b o ∷ []) (vptr b o ∷ []) refl $
       -- [the pointer is what was passed; what the result owns; obs; the borrow; its token; the other tokens; what is said of the last values]
       move ! (0 ∷ 2 ∷ 3 ∷ []) $ fjoin3 ! $ move ! (0 ∷ 4 ∷ []) $ fjoin ! $ move ! (2 ∷ 3 ∷ []) $ join ! $ group ! 3 $ frame ! $
-      use0 W (raw (fact 𝓤 (zs .1 .1 .1 .1 .1 .1 .0 ≡ appended h (areas (now (a .1 .0)) (now (a .1 .1 .0)) (now (a .1 .1 .1 .0)) (now (a .1 .1 .1 .1 .0)) (now (a .1 .1 .1 .1 .1 .0)) (now (a .1 .1 .1 .1 .1 .1 .0))) (a .1 .1 .1 .1 .1 .1 .1 .0) (a .1 .1 .1 .1 .1 .1 .1 .1 .0) (now (a .1 .1 .1 .1 .1 .1 .1 .1 .1 .0)) .areas .lens))) (factI 𝓤 (zs .1 .1 .1 .1 .1 .1 .0 ≡ appended h (areas (now (a .1 .0)) (now (a .1 .1 .0)) (now (a .1 .1 .1 .0)) (now (a .1 .1 .1 .1 .0)) (now (a .1 .1 .1 .1 .1 .0)) (now (a .1 .1 .1 .1 .1 .1 .0))) (a .1 .1 .1 .1 .1 .1 .1 .0) (a .1 .1 .1 .1 .1 .1 .1 .1 .0) (now (a .1 .1 .1 .1 .1 .1 .1 .1 .1 .0)) .areas .lens) (emp 𝓤) (e6)) $
-      use0 W (raw (fact 𝓤 (zs .1 .1 .1 .1 .1 .0 ≡ appended h (areas (now (a .1 .0)) (now (a .1 .1 .0)) (now (a .1 .1 .1 .0)) (now (a .1 .1 .1 .1 .0)) (now (a .1 .1 .1 .1 .1 .0)) (now (a .1 .1 .1 .1 .1 .1 .0))) (a .1 .1 .1 .1 .1 .1 .1 .0) (a .1 .1 .1 .1 .1 .1 .1 .1 .0) (now (a .1 .1 .1 .1 .1 .1 .1 .1 .1 .0)) .areas .keys))) (factI 𝓤 (zs .1 .1 .1 .1 .1 .0 ≡ appended h (areas (now (a .1 .0)) (now (a .1 .1 .0)) (now (a .1 .1 .1 .0)) (now (a .1 .1 .1 .1 .0)) (now (a .1 .1 .1 .1 .1 .0)) (now (a .1 .1 .1 .1 .1 .1 .0))) (a .1 .1 .1 .1 .1 .1 .1 .0) (a .1 .1 .1 .1 .1 .1 .1 .1 .0) (now (a .1 .1 .1 .1 .1 .1 .1 .1 .1 .0)) .areas .keys) (emp 𝓤) (e5)) $
-      use0 W (raw (fact 𝓤 (zs .1 .1 .1 .1 .0 ≡ appended h (areas (now (a .1 .0)) (now (a .1 .1 .0)) (now (a .1 .1 .1 .0)) (now (a .1 .1 .1 .1 .0)) (now (a .1 .1 .1 .1 .1 .0)) (now (a .1 .1 .1 .1 .1 .1 .0))) (a .1 .1 .1 .1 .1 .1 .1 .0) (a .1 .1 .1 .1 .1 .1 .1 .1 .0) (now (a .1 .1 .1 .1 .1 .1 .1 .1 .1 .0)) .areas .counts))) (factI 𝓤 (zs .1 .1 .1 .1 .0 ≡ appended h (areas (now (a .1 .0)) (now (a .1 .1 .0)) (now (a .1 .1 .1 .0)) (now (a .1 .1 .1 .1 .0)) (now (a .1 .1 .1 .1 .1 .0)) (now (a .1 .1 .1 .1 .1 .1 .0))) (a .1 .1 .1 .1 .1 .1 .1 .0) (a .1 .1 .1 .1 .1 .1 .1 .1 .0) (now (a .1 .1 .1 .1 .1 .1 .1 .1 .1 .0)) .areas .counts) (emp 𝓤) (e4)) $
-      use0 W (raw (fact 𝓤 (zs .1 .1 .1 .0 ≡ appended h (areas (now (a .1 .0)) (now (a .1 .1 .0)) (now (a .1 .1 .1 .0)) (now (a .1 .1 .1 .1 .0)) (now (a .1 .1 .1 .1 .1 .0)) (now (a .1 .1 .1 .1 .1 .1 .0))) (a .1 .1 .1 .1 .1 .1 .1 .0) (a .1 .1 .1 .1 .1 .1 .1 .1 .0) (now (a .1 .1 .1 .1 .1 .1 .1 .1 .1 .0)) .areas .flags))) (factI 𝓤 (zs .1 .1 .1 .0 ≡ appended h (areas (now (a .1 .0)) (now (a .1 .1 .0)) (now (a .1 .1 .1 .0)) (now (a .1 .1 .1 .1 .0)) (now (a .1 .1 .1 .1 .1 .0)) (now (a .1 .1 .1 .1 .1 .1 .0))) (a .1 .1 .1 .1 .1 .1 .1 .0) (a .1 .1 .1 .1 .1 .1 .1 .1 .0) (now (a .1 .1 .1 .1 .1 .1 .1 .1 .1 .0)) .areas .flags) (emp 𝓤) (e3)) $
-      use0 W (raw (fact 𝓤 (zs .1 .1 .0 ≡ appended h (areas (now (a .1 .0)) (now (a .1 .1 .0)) (now (a .1 .1 .1 .0)) (now (a .1 .1 .1 .1 .0)) (now (a .1 .1 .1 .1 .1 .0)) (now (a .1 .1 .1 .1 .1 .1 .0))) (a .1 .1 .1 .1 .1 .1 .1 .0) (a .1 .1 .1 .1 .1 .1 .1 .1 .0) (now (a .1 .1 .1 .1 .1 .1 .1 .1 .1 .0)) .areas .ends))) (factI 𝓤 (zs .1 .1 .0 ≡ appended h (areas (now (a .1 .0)) (now (a .1 .1 .0)) (now (a .1 .1 .1 .0)) (now (a .1 .1 .1 .1 .0)) (now (a .1 .1 .1 .1 .1 .0)) (now (a .1 .1 .1 .1 .1 .1 .0))) (a .1 .1 .1 .1 .1 .1 .1 .0) (a .1 .1 .1 .1 .1 .1 .1 .1 .0) (now (a .1 .1 .1 .1 .1 .1 .1 .1 .1 .0)) .areas .ends) (emp 𝓤) (e2)) $
-      use0 W (raw (fact 𝓤 (zs .1 .0 ≡ appended h (areas (now (a .1 .0)) (now (a .1 .1 .0)) (now (a .1 .1 .1 .0)) (now (a .1 .1 .1 .1 .0)) (now (a .1 .1 .1 .1 .1 .0)) (now (a .1 .1 .1 .1 .1 .1 .0))) (a .1 .1 .1 .1 .1 .1 .1 .0) (a .1 .1 .1 .1 .1 .1 .1 .1 .0) (now (a .1 .1 .1 .1 .1 .1 .1 .1 .1 .0)) .areas .items))) (factI 𝓤 (zs .1 .0 ≡ appended h (areas (now (a .1 .0)) (now (a .1 .1 .0)) (now (a .1 .1 .1 .0)) (now (a .1 .1 .1 .1 .0)) (now (a .1 .1 .1 .1 .1 .0)) (now (a .1 .1 .1 .1 .1 .1 .0))) (a .1 .1 .1 .1 .1 .1 .1 .0) (a .1 .1 .1 .1 .1 .1 .1 .1 .0) (now (a .1 .1 .1 .1 .1 .1 .1 .1 .1 .0)) .areas .items) (emp 𝓤) (e1)) $
-      use0 W (raw (fact 𝓤 (r .builder ≡ appended h (areas (now (a .1 .0)) (now (a .1 .1 .0)) (now (a .1 .1 .1 .0)) (now (a .1 .1 .1 .1 .0)) (now (a .1 .1 .1 .1 .1 .0)) (now (a .1 .1 .1 .1 .1 .1 .0))) (a .1 .1 .1 .1 .1 .1 .1 .0) (a .1 .1 .1 .1 .1 .1 .1 .1 .0) (now (a .1 .1 .1 .1 .1 .1 .1 .1 .1 .0)) .answer .builder))) (factI 𝓤 (r .builder ≡ appended h (areas (now (a .1 .0)) (now (a .1 .1 .0)) (now (a .1 .1 .1 .0)) (now (a .1 .1 .1 .1 .0)) (now (a .1 .1 .1 .1 .1 .0)) (now (a .1 .1 .1 .1 .1 .1 .0))) (a .1 .1 .1 .1 .1 .1 .1 .0) (a .1 .1 .1 .1 .1 .1 .1 .1 .0) (now (a .1 .1 .1 .1 .1 .1 .1 .1 .1 .0)) .answer .builder) (emp 𝓤) (ap (λ (z : Appended). z .builder) e0)) $
-      use0 W (raw (fact 𝓤 (r .number ≡ appended h (areas (now (a .1 .0)) (now (a .1 .1 .0)) (now (a .1 .1 .1 .0)) (now (a .1 .1 .1 .1 .0)) (now (a .1 .1 .1 .1 .1 .0)) (now (a .1 .1 .1 .1 .1 .1 .0))) (a .1 .1 .1 .1 .1 .1 .1 .0) (a .1 .1 .1 .1 .1 .1 .1 .1 .0) (now (a .1 .1 .1 .1 .1 .1 .1 .1 .1 .0)) .answer .number))) (factI 𝓤 (r .number ≡ appended h (areas (now (a .1 .0)) (now (a .1 .1 .0)) (now (a .1 .1 .1 .0)) (now (a .1 .1 .1 .1 .0)) (now (a .1 .1 .1 .1 .1 .0)) (now (a .1 .1 .1 .1 .1 .1 .0))) (a .1 .1 .1 .1 .1 .1 .1 .0) (a .1 .1 .1 .1 .1 .1 .1 .1 .0) (now (a .1 .1 .1 .1 .1 .1 .1 .1 .1 .0)) .answer .number) (emp 𝓤) (ap (λ (z : Appended). z .number) e0)) $ done !
+      use0 W (raw (fact 𝓤 (zs .1 .1 .1 .1 .1 .1 .0 ≡ appended h (lent (now (a .1 .0)) (now (a .1 .1 .0)) (now (a .1 .1 .1 .0)) (now (a .1 .1 .1 .1 .0)) (now (a .1 .1 .1 .1 .1 .0)) (now (a .1 .1 .1 .1 .1 .1 .0))) (a .1 .1 .1 .1 .1 .1 .1 .0) (a .1 .1 .1 .1 .1 .1 .1 .1 .0) (now (a .1 .1 .1 .1 .1 .1 .1 .1 .1 .0)) .areas .lens))) (factI 𝓤 (zs .1 .1 .1 .1 .1 .1 .0 ≡ appended h (lent (now (a .1 .0)) (now (a .1 .1 .0)) (now (a .1 .1 .1 .0)) (now (a .1 .1 .1 .1 .0)) (now (a .1 .1 .1 .1 .1 .0)) (now (a .1 .1 .1 .1 .1 .1 .0))) (a .1 .1 .1 .1 .1 .1 .1 .0) (a .1 .1 .1 .1 .1 .1 .1 .1 .0) (now (a .1 .1 .1 .1 .1 .1 .1 .1 .1 .0)) .areas .lens) (emp 𝓤) (e6)) $
+      use0 W (raw (fact 𝓤 (zs .1 .1 .1 .1 .1 .0 ≡ appended h (lent (now (a .1 .0)) (now (a .1 .1 .0)) (now (a .1 .1 .1 .0)) (now (a .1 .1 .1 .1 .0)) (now (a .1 .1 .1 .1 .1 .0)) (now (a .1 .1 .1 .1 .1 .1 .0))) (a .1 .1 .1 .1 .1 .1 .1 .0) (a .1 .1 .1 .1 .1 .1 .1 .1 .0) (now (a .1 .1 .1 .1 .1 .1 .1 .1 .1 .0)) .areas .keys))) (factI 𝓤 (zs .1 .1 .1 .1 .1 .0 ≡ appended h (lent (now (a .1 .0)) (now (a .1 .1 .0)) (now (a .1 .1 .1 .0)) (now (a .1 .1 .1 .1 .0)) (now (a .1 .1 .1 .1 .1 .0)) (now (a .1 .1 .1 .1 .1 .1 .0))) (a .1 .1 .1 .1 .1 .1 .1 .0) (a .1 .1 .1 .1 .1 .1 .1 .1 .0) (now (a .1 .1 .1 .1 .1 .1 .1 .1 .1 .0)) .areas .keys) (emp 𝓤) (e5)) $
+      use0 W (raw (fact 𝓤 (zs .1 .1 .1 .1 .0 ≡ appended h (lent (now (a .1 .0)) (now (a .1 .1 .0)) (now (a .1 .1 .1 .0)) (now (a .1 .1 .1 .1 .0)) (now (a .1 .1 .1 .1 .1 .0)) (now (a .1 .1 .1 .1 .1 .1 .0))) (a .1 .1 .1 .1 .1 .1 .1 .0) (a .1 .1 .1 .1 .1 .1 .1 .1 .0) (now (a .1 .1 .1 .1 .1 .1 .1 .1 .1 .0)) .areas .counts))) (factI 𝓤 (zs .1 .1 .1 .1 .0 ≡ appended h (lent (now (a .1 .0)) (now (a .1 .1 .0)) (now (a .1 .1 .1 .0)) (now (a .1 .1 .1 .1 .0)) (now (a .1 .1 .1 .1 .1 .0)) (now (a .1 .1 .1 .1 .1 .1 .0))) (a .1 .1 .1 .1 .1 .1 .1 .0) (a .1 .1 .1 .1 .1 .1 .1 .1 .0) (now (a .1 .1 .1 .1 .1 .1 .1 .1 .1 .0)) .areas .counts) (emp 𝓤) (e4)) $
+      use0 W (raw (fact 𝓤 (zs .1 .1 .1 .0 ≡ appended h (lent (now (a .1 .0)) (now (a .1 .1 .0)) (now (a .1 .1 .1 .0)) (now (a .1 .1 .1 .1 .0)) (now (a .1 .1 .1 .1 .1 .0)) (now (a .1 .1 .1 .1 .1 .1 .0))) (a .1 .1 .1 .1 .1 .1 .1 .0) (a .1 .1 .1 .1 .1 .1 .1 .1 .0) (now (a .1 .1 .1 .1 .1 .1 .1 .1 .1 .0)) .areas .flags))) (factI 𝓤 (zs .1 .1 .1 .0 ≡ appended h (lent (now (a .1 .0)) (now (a .1 .1 .0)) (now (a .1 .1 .1 .0)) (now (a .1 .1 .1 .1 .0)) (now (a .1 .1 .1 .1 .1 .0)) (now (a .1 .1 .1 .1 .1 .1 .0))) (a .1 .1 .1 .1 .1 .1 .1 .0) (a .1 .1 .1 .1 .1 .1 .1 .1 .0) (now (a .1 .1 .1 .1 .1 .1 .1 .1 .1 .0)) .areas .flags) (emp 𝓤) (e3)) $
+      use0 W (raw (fact 𝓤 (zs .1 .1 .0 ≡ appended h (lent (now (a .1 .0)) (now (a .1 .1 .0)) (now (a .1 .1 .1 .0)) (now (a .1 .1 .1 .1 .0)) (now (a .1 .1 .1 .1 .1 .0)) (now (a .1 .1 .1 .1 .1 .1 .0))) (a .1 .1 .1 .1 .1 .1 .1 .0) (a .1 .1 .1 .1 .1 .1 .1 .1 .0) (now (a .1 .1 .1 .1 .1 .1 .1 .1 .1 .0)) .areas .ends))) (factI 𝓤 (zs .1 .1 .0 ≡ appended h (lent (now (a .1 .0)) (now (a .1 .1 .0)) (now (a .1 .1 .1 .0)) (now (a .1 .1 .1 .1 .0)) (now (a .1 .1 .1 .1 .1 .0)) (now (a .1 .1 .1 .1 .1 .1 .0))) (a .1 .1 .1 .1 .1 .1 .1 .0) (a .1 .1 .1 .1 .1 .1 .1 .1 .0) (now (a .1 .1 .1 .1 .1 .1 .1 .1 .1 .0)) .areas .ends) (emp 𝓤) (e2)) $
+      use0 W (raw (fact 𝓤 (zs .1 .0 ≡ appended h (lent (now (a .1 .0)) (now (a .1 .1 .0)) (now (a .1 .1 .1 .0)) (now (a .1 .1 .1 .1 .0)) (now (a .1 .1 .1 .1 .1 .0)) (now (a .1 .1 .1 .1 .1 .1 .0))) (a .1 .1 .1 .1 .1 .1 .1 .0) (a .1 .1 .1 .1 .1 .1 .1 .1 .0) (now (a .1 .1 .1 .1 .1 .1 .1 .1 .1 .0)) .areas .items))) (factI 𝓤 (zs .1 .0 ≡ appended h (lent (now (a .1 .0)) (now (a .1 .1 .0)) (now (a .1 .1 .1 .0)) (now (a .1 .1 .1 .1 .0)) (now (a .1 .1 .1 .1 .1 .0)) (now (a .1 .1 .1 .1 .1 .1 .0))) (a .1 .1 .1 .1 .1 .1 .1 .0) (a .1 .1 .1 .1 .1 .1 .1 .1 .0) (now (a .1 .1 .1 .1 .1 .1 .1 .1 .1 .0)) .areas .items) (emp 𝓤) (e1)) $
+      use0 W (raw (fact 𝓤 (r .builder ≡ appended h (lent (now (a .1 .0)) (now (a .1 .1 .0)) (now (a .1 .1 .1 .0)) (now (a .1 .1 .1 .1 .0)) (now (a .1 .1 .1 .1 .1 .0)) (now (a .1 .1 .1 .1 .1 .1 .0))) (a .1 .1 .1 .1 .1 .1 .1 .0) (a .1 .1 .1 .1 .1 .1 .1 .1 .0) (now (a .1 .1 .1 .1 .1 .1 .1 .1 .1 .0)) .answer .builder))) (factI 𝓤 (r .builder ≡ appended h (lent (now (a .1 .0)) (now (a .1 .1 .0)) (now (a .1 .1 .1 .0)) (now (a .1 .1 .1 .1 .0)) (now (a .1 .1 .1 .1 .1 .0)) (now (a .1 .1 .1 .1 .1 .1 .0))) (a .1 .1 .1 .1 .1 .1 .1 .0) (a .1 .1 .1 .1 .1 .1 .1 .1 .0) (now (a .1 .1 .1 .1 .1 .1 .1 .1 .1 .0)) .answer .builder) (emp 𝓤) (ap (λ (z : Appended). z .builder) e0)) $
+      use0 W (raw (fact 𝓤 (r .number ≡ appended h (lent (now (a .1 .0)) (now (a .1 .1 .0)) (now (a .1 .1 .1 .0)) (now (a .1 .1 .1 .1 .0)) (now (a .1 .1 .1 .1 .1 .0)) (now (a .1 .1 .1 .1 .1 .1 .0))) (a .1 .1 .1 .1 .1 .1 .1 .0) (a .1 .1 .1 .1 .1 .1 .1 .1 .0) (now (a .1 .1 .1 .1 .1 .1 .1 .1 .1 .0)) .answer .number))) (factI 𝓤 (r .number ≡ appended h (lent (now (a .1 .0)) (now (a .1 .1 .0)) (now (a .1 .1 .1 .0)) (now (a .1 .1 .1 .1 .0)) (now (a .1 .1 .1 .1 .1 .0)) (now (a .1 .1 .1 .1 .1 .1 .0))) (a .1 .1 .1 .1 .1 .1 .1 .0) (a .1 .1 .1 .1 .1 .1 .1 .1 .0) (now (a .1 .1 .1 .1 .1 .1 .1 .1 .1 .0)) .answer .number) (emp 𝓤) (ap (λ (z : Appended). z .number) e0)) $ done !
 
   -- what whoever holds the result knows of its parts
   num-fits : (r : Appended) (w : Val) → Is S.the-row r (w ∷ []) → r .number < 2 ^ 8
@@ -229,4 +229,4 @@ append-spec 𝓤 H 𝓜 𝓖 𝓡 =
     entered 𝓤 H (tripleOf 𝓤 H (𝓖 .A) f.signature (f.spec 𝓤 H (𝓖 .A) (𝓜 .mem) (𝓡 .run)))
     (tables 𝓤 H 𝓜 𝓡 code.env .C) (tables 𝓤 H 𝓜 𝓡 code.env .Λ) #f code.function (code.unfolded 𝓤 H 𝓜 𝓡)
     (f-meets 𝓤 H (𝓖 .A) (givenOf 𝓤 H 𝓜 𝓖) (𝓜 .mem) (𝓡 .run) (tablesOf 𝓤 H 𝓜 (tables 𝓤 H 𝓜 𝓡 code.env))
-    (cited 𝓤 H (G 𝓤 H (𝓖 .A) (𝓜 .mem) (𝓡 .run)) 𝓜 𝓡 code.env #g g-def.routine code.calls-build·Builder·append (g-thm.met 𝓤 H 𝓜 𝓖 𝓡)))
+    (cited 𝓤 H (G 𝓤 H (𝓖 .A) (𝓜 .mem) (𝓡 .run)) 𝓜 𝓡 code.env #g g-def.routine code.calls-builder·Builder·append (g-thm.met 𝓤 H 𝓜 𝓖 𝓡)))

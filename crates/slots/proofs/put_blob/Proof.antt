@@ -6,7 +6,10 @@ use Rattle.slots.proofs.put_blob.Statement.{statement}
 use Rattle.slots.proofs.put_blob.Tie as tie
 
 copy-requires : tie.Need-copy-requires
-copy-requires c κs = let s = c .before .before .before .before in let a = s .args in (omega arith, blob-room (a .present) (a .item .now) (a .items .now) (a .at) (s .pre) (c .before .if1 .taken))
+copy-requires c κs =
+    let s = c .before .before .before .before in
+    let a = s .args in
+    (omega arith, blob-room (a .present) (a .item .now) (a .items .now) (a .at) (s .pre) (c .before .if1 .taken))
 
 returns : tie.Need-returns
 returns c =

@@ -22,28 +22,32 @@ copy-requires c κs =
     let l = short s (c .before .if1 .taken) in
     (omega arith, omega arith)
 
+-- what is left to fill, behind the bytes
 add-fill-bytes : tie.Need-add-fill-bytes
 add-fill-bytes c =
-    let s = c .before .before .before .before .before .before .before .before in
+    let t = c .before .before .before .before .before in
+    let s = t .before .before .before in
     let r = room s in
-    let l = short s (c .before .before .before .before .before .if1 .taken) in
+    let l = short s (t .if1 .taken) in
     omega arith
 
 sub-fill-bytes : tie.Need-sub-fill-bytes
-sub-fill-bytes c = short (c .before .before .before .before .before .before .before .before) (c .before .before .before .before .before .if1 .taken)
+sub-fill-bytes c = let t = c .before .before .before .before .before in short (t .before .before .before) (t .if1 .taken)
 
 fill-bytes-requires : tie.Need-fill-bytes-requires
 fill-bytes-requires c κs =
-    let s = c .before .before .before .before .before .before .before .before in
+    let t = c .before .before .before .before .before in
+    let s = t .before .before .before in
     let r = room s in
-    let l = short s (c .before .before .before .before .before .if1 .taken) in
+    let l = short s (t .if1 .taken) in
     omega arith
 
 returns : tie.Need-returns
 returns c =
-    let s = c .before .before .before .before .before .before .before .before .before .before .before in
-    char-put _ _ _ _ _ (s .pre .0) (s .pre .1) (c .before .before .before .before .before .before .before .before .if1 .taken)
-    (c .before .before .before .before .before .before .copy .ensures) (c .before .before .fill-bytes .ensures)
+    let p = c .before .before .before .before .before .before in
+    let t = p .before .before in
+    let s = t .before .before .before in
+    char-put _ _ _ _ _ (s .pre .0) (s .pre .1) (t .if1 .taken) (p .copy .ensures) (c .before .before .fill-bytes .ensures)
 
 fill-bytes-requires-2 : tie.Need-fill-bytes-requires-2
 fill-bytes-requires-2 c κs = room (c .before .before .before .before)

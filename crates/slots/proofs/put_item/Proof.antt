@@ -27,21 +27,25 @@ put-blob-requires c κs =
 
 returns : tie.Need-returns
 returns c =
-    let s = c .before .before .before .before .before .before .before .before .before in
+    let k = c .before .before .before .before .before in
+    let s = k .before .before .before .before in
     let a = s .args in
-    laws.fixed-found (a .kind) (a .present) (a .value) (a .item .now) (a .items .now) (a .at) _ (c .before .before .before .before .before .kind .given .1) (s .fits .value) (c .before .before .put-value .ensures)
+    laws.fixed-found (a .kind) (a .present) (a .value) (a .item .now) (a .items .now) (a .at) _ (k .kind .given .1) (s .fits .value)
+    (c .before .before .put-value .ensures)
 
 returns-2 : tie.Need-returns-2
 returns-2 c =
-    let s = c .before .before .before .before .before .before .before .before .before in
-    let a = s .args in
-    laws.char-found (a .kind) (a .present) (a .value) (a .item .now) (a .items .now) (a .at) _ (c .before .before .before .before .before .kind2 .given .1) (c .before .before .put-char .ensures)
+    let k = c .before .before .before .before .before in
+    let a = k .before .before .before .before .args in
+    laws.char-found (a .kind) (a .present) (a .value) (a .item .now) (a .items .now) (a .at) _ (k .kind2 .given .1)
+    (c .before .before .put-char .ensures)
 
 returns-3 : tie.Need-returns-3
 returns-3 c =
-    let s = c .before .before .before .before .before .before .before .before in
-    let a = s .args in
-    laws.blob-found (a .kind) (a .present) (a .value) (a .item .now) (a .items .now) (a .at) (c .before .before .before .before .enum-told .given .1) (c .before .before .put-blob .ensures)
+    let k = c .before .before .before .before in
+    let a = k .before .before .before .before .args in
+    laws.blob-found (a .kind) (a .present) (a .value) (a .item .now) (a .items .now) (a .at) (k .enum-told .given .1)
+    (c .before .before .put-blob .ensures)
 
 pub put-item-spec : {M : Type 1} → statement M
 put-item-spec =

@@ -9,7 +9,10 @@ returns : tie.Need-returns
 returns c = laws.fits-none _ _ _ _ (not-true _ (c .if1 .taken))
 
 returns-2 : tie.Need-returns-2
-returns-2 c = laws.fits-fixed _ _ _ _ _ (c .before .before .kind .given .1) (not-false _ (c .before .before .before .before .if1 .left)) (c .before .before .before .before .before .before .fits .value) (c .takes .ensures)
+returns-2 c =
+    let k = c .before .before in
+    let e = k .before .before in
+    laws.fits-fixed _ _ _ _ _ (k .kind .given .1) (not-false _ (e .if1 .left)) (e .before .before .fits .value) (c .takes .ensures)
 
 returns-3 : tie.Need-returns-3
 returns-3 c = laws.fits-char _ _ _ _ _ (c .before .kind2 .given .1) (not-false _ (c .before .before .before .if1 .left))

@@ -36,7 +36,11 @@ slice-set-from-key : tie.Need-slice-set-from-key
 slice-set-from-key c = c .before .before .pre .2 (new-key _ _ (c .if2 .taken) (c .before .if1 .left))
 
 returns-2 : tie.Need-returns-2
-returns-2 c = let a = c .before .before .args in (count-new _ _ _ _ (c .before .if1 .left), key-set (new-key (a .keyed) (a .joins) (c .if2 .taken) (c .before .if1 .left)) (a .n) (a .key) (a .keys .now) (c .before .before .fits .key))
+returns-2 c =
+    let s = c .before .before in
+    let a = s .args in
+    let new = new-key (a .keyed) (a .joins) (c .if2 .taken) (c .before .if1 .left) in
+    (count-new _ _ _ _ (c .before .if1 .left), key-set new (a .n) (a .key) (a .keys .now) (s .fits .key))
 
 returns-3 : tie.Need-returns-3
 returns-3 c = (count-new _ _ _ _ (c .before .if1 .left), key-kept (not-keyed _ (c .before .before .args .joins) (c .if2 .left)) _ _)

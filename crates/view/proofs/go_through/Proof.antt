@@ -46,9 +46,8 @@ use denote.Triple.Table.{entered, cited}
 use denote.Triple.Walked.{Stays, walkOf, AllGo, Walks, ends-at, walked, walk-meets}
 use denote.Signature.{Slot, plain, namedLft}
 use Rattle.block.specs.declared.Skipped.{Skipped}
-use Rattle.block.specs.Reading.{Areas, Batch, areas, opened, skipped, batched}
-use Rattle.capi.specs.declared.Opening.{Opening}
-use Rattle.capi.specs.Answers.{openingOf}
+use Rattle.block.specs.Reading.{Areas, Batch, areas, opened, skipped, batched, openingOf}
+use Rattle.block.specs.declared.Opening.{Opening}
 use Rattle.view.specs.Stepwise.{Read, sizeAfter, stepwise}
 use Rattle.walk.proofs.Said.{stays-said, fits-said, goes-said}
 use Rattle.block.specs.declared.Reader.{Reader}

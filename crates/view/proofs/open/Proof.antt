@@ -45,8 +45,7 @@ use denote.Triple.Clauses.{Lasts, ensured, lasts}
 use denote.Triple.Table.{entered, cited}
 use denote.Triple.Walked.{Stays, walkOf, AllGo, Walks, ends-at, walked, walk-meets}
 use denote.Signature.{Slot, plain, namedLft}
-use Rattle.block.specs.Reading.{Areas, Batch, areas, opened, skipped, batched, remaining}
-use Rattle.capi.specs.Answers.{openingOf}
+use Rattle.block.specs.Reading.{Areas, Batch, areas, opened, skipped, batched, remaining, openingOf}
 use Rattle.walk.proofs.Said.{stays-said, fits-said, goes-said}
 use Rattle.block.specs.declared.Reader.{Reader}
 use Rattle.block.proofs.Reader as P
@@ -54,16 +53,16 @@ use Rattle.block.proofs.Reader.Laws as P′
 use Rattle.view.specs.declared.View.{View}
 use Rattle.view.proofs.View as T
 use Rattle.view.proofs.View.Laws as T′
-use Rattle.capi.specs.declared.Opening.{Opening}
-use Rattle.capi.proofs.Opening as S
-use Rattle.capi.proofs.Opening.Laws as S′
+use Rattle.block.specs.declared.Opening.{Opening}
+use Rattle.block.proofs.Opening as S
+use Rattle.block.proofs.Opening.Laws as S′
 use Rattle.view.specs.declared.Viewed.{Viewed}
 use Rattle.view.proofs.Viewed as K
 use Rattle.view.proofs.Viewed.Laws as K′
-use Rattle.capi.proofs.idz_open as g
-use Rattle.capi.proofs.idz_open.Symbol as g-def
-use Rattle.capi.proofs.idz_open.Symbol.{name as #g}
-use Rattle.capi.proofs.idz_open.Met as g-thm
+use Rattle.block.proofs.open_by_number as g
+use Rattle.block.proofs.open_by_number.Symbol as g-def
+use Rattle.block.proofs.open_by_number.Symbol.{name as #g}
+use Rattle.block.proofs.open_by_number.Met as g-thm
 use Rattle.view.proofs.open.Key.{name as #f}
 use Rattle.view.proofs.open as f
 use Rattle.view.proofs.open.Statement as stated
@@ -182,4 +181,4 @@ open-spec 𝓤 H 𝓜 𝓖 𝓡 =
     entered 𝓤 H (tripleOf 𝓤 H (𝓖 .A) f.signature (f.spec 𝓤 H (𝓖 .A) (𝓜 .mem) (𝓡 .run)))
     (tables 𝓤 H 𝓜 𝓡 code.env .C) (tables 𝓤 H 𝓜 𝓡 code.env .Λ) #f code.function (code.unfolded 𝓤 H 𝓜 𝓡)
     (f-meets 𝓤 H (𝓖 .A) (givenOf 𝓤 H 𝓜 𝓖) (𝓜 .mem) (𝓡 .run) (tablesOf 𝓤 H 𝓜 (tables 𝓤 H 𝓜 𝓡 code.env))
-    (cited 𝓤 H (G 𝓤 H (𝓖 .A) (𝓜 .mem) (𝓡 .run)) 𝓜 𝓡 code.env #g g-def.routine code.calls-capi·idz-open (g-thm.met 𝓤 H 𝓜 𝓖 𝓡)))
+    (cited 𝓤 H (G 𝓤 H (𝓖 .A) (𝓜 .mem) (𝓡 .run)) 𝓜 𝓡 code.env #g g-def.routine code.calls-block·open-by-number (g-thm.met 𝓤 H 𝓜 𝓖 𝓡)))

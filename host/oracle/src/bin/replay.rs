@@ -1,8 +1,8 @@
-//! Stores answers of the original for the program `replay`, which runs the same commands on the port with no Rust at hand.
+//! Stores answers of the original for the program `try_replay`, which runs the same commands on the port with no Rust at hand.
 //!
 //!     replay FOLDER [SEED]
 //!
-//! Writes FOLDER/stdin, the commands as crates/replay/src/main.rt takes them, and FOLDER/stdout, what the original answers: before each
+//! Writes FOLDER/stdin, the commands as crates/try_replay/src/main.rt takes them, and FOLDER/stdout, what the original answers: before each
 //! row and after the last whether to finish and the estimated size, the block, and the rows that skips and batches give. Nothing of
 //! the port is run here. Where the original panics nothing is stored.
 use std::fmt::Write;

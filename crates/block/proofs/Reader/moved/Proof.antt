@@ -1,17 +1,16 @@
--- `Reader::moved` meets its contract, by the laws of the steps that it takes. Assumes nothing.
-use Rattle.block.proofs.Moving.{moved-coded, moved-alone}
+-- `block::Reader::moved` meets its contract. Assumes nothing.
 use borrow.Author.Needs.{needs}
+use Rattle.block.specs.Spots.{spotBy, movedBy}
 use Rattle.block.proofs.Reader.moved.Statement.{statement}
 use Rattle.block.proofs.Reader.moved.Tie as tie
 
-add-next : tie.Need-add-next
-add-next c = search needs
-
 returns : tie.Need-returns
-returns c = moved-coded _ _ _ _ (c .if1 .taken)
+unfolding spotBy movedBy
+returns c = rw (c .if1 .taken)
 
 returns-2 : tie.Need-returns-2
-returns-2 c = moved-alone _ _ _ _ (c .if1 .left)
+unfolding spotBy movedBy
+returns-2 c = rw (c .if1 .left)
 
 pub moved-spec : {M : Type 1} → statement M
-moved-spec = tie.close (tie.spec add-next returns returns-2)
+moved-spec = tie.close (tie.spec (λ c. search needs) returns returns-2)

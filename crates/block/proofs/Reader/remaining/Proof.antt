@@ -1,6 +1,7 @@
 -- `block::Reader::remaining` meets its contract: each return by the law of the tests that led there. Assumes nothing.
 use borrow.Author.Needs.{needs}
-use Rattle.block.proofs.Skipping as laws
+use Rattle.block.proofs.RecordTests.{place-within}
+use Rattle.block.proofs.SkipCases as laws
 use Rattle.block.proofs.Reader.remaining.Statement.{statement}
 use Rattle.block.proofs.Reader.remaining.Tie as tie
 
@@ -8,10 +9,12 @@ returns : tie.Need-returns
 returns c = laws.remaining-unknown _ (c .before .before .named .ensures) (c .enum-told .given .1)
 
 returns-2 : tie.Need-returns-2
-returns-2 c = let v = c .before .before .before in laws.remaining-wrong _ (v .before .before .named .ensures) (v .column .given .1) (c .before .wrong .ensures) (c .if1 .taken)
+returns-2 c =
+    let v = c .before .before .before in
+    laws.remaining-wrong _ (v .before .before .named .ensures) (v .column .given .1) (c .before .wrong .ensures) (c .if1 .taken)
 
 sub-t6 : tie.Need-sub-t6
-sub-t6 c = laws.place-within _ _ _ (c .before .before .wrong .ensures) (c .before .if1 .left)
+sub-t6 c = place-within _ _ _ (c .before .before .wrong .ensures) (c .before .if1 .left)
 
 returns-3 : tie.Need-returns-3
 returns-3 c =

@@ -1,8 +1,7 @@
 -- `block::Reader::wrong` meets its contract: each return by the law of the tests that led there. Assumes nothing.
 use native.Mathlib.Omega.{arith}
-use mathlib.Core.Path.{sym, _∙_}
 use borrow.Author.Needs.{needs}
-use Rattle.block.proofs.Testing as laws
+use Rattle.block.proofs.RecordTests as laws
 use Rattle.block.proofs.Reader.wrong.Statement.{statement}
 use Rattle.block.proofs.Reader.wrong.Tie as tie
 
@@ -29,7 +28,10 @@ returns-4 c =
     (c .if4 .taken)
 
 part-outside-requires : tie.Need-part-outside-requires
-part-outside-requires c κs = (omega arith, omega (arith, c .before .before .before .before .before .before .most-rows .ensures), sym (c .before .head-wrong .ensures) ∙ c .if4 .left)
+part-outside-requires c κs =
+    let m = c .before .before .before .before .before .before in
+    let a = m .before .before .before .args in
+    laws.parts-ask (a .kind) (a .encoding) (a .self) (omega arith) (m .most-rows .ensures) (omega arith) (c .before .head-wrong .ensures) (c .if4 .left)
 
 returns-5 : tie.Need-returns-5
 returns-5 c =

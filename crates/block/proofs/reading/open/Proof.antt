@@ -1,7 +1,7 @@
 -- `block::open` meets its contract: each return by the law of the tests that led there. Assumes nothing.
 use native.Mathlib.Omega.{arith}
 use borrow.Author.Needs.{needs}
-use Rattle.block.proofs.Opening as laws
+use Rattle.block.proofs.OpeningCases as laws
 use Rattle.block.proofs.reading.open.Statement.{statement}
 use Rattle.block.proofs.reading.open.Tie as tie
 
@@ -36,7 +36,7 @@ returns-4 c =
 
 returns-5 : tie.Need-returns-5
 returns-5 c =
-    let u = c .before .before .before .before .before in
+    let u = c .before .before .before .before .before .before in
     let v = u .before .before .before in
     laws.open-sound
     _
@@ -49,8 +49,9 @@ returns-5 c =
     (omega arith)
     (u .most-rows .ensures)
     (omega arith)
-    (c .before .before .before .check .ensures)
-    (c .before .found2 .given .1)
+    (c .before .before .before .before .check .ensures)
+    (c .before .before .found2 .given .1)
+    (c .at-start .ensures)
 
 pub open-spec : {M : Type 1} → statement M
 open-spec =
@@ -66,5 +67,6 @@ open-spec =
     (λ c κs. search needs)
     (λ c. search needs)
     (λ c. search needs)
+    (λ c κs. search needs)
     returns-4
     returns-5)

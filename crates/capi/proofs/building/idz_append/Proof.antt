@@ -6,8 +6,11 @@ use Rattle.capi.proofs.building.idz_append.Tie as tie
 
 returns : tie.Need-returns
 returns c =
-    let d = c .before .before .before .before .before .before .before .before .before .before .before in
-    rw (← (d .before .before .before .before .before .before .before .is-present .ensures)) (rw (toZ-ofZ (d .before .before .before .before .before .before .before .before .before .before .before .before .before .before .fits .value)) at (d .append .ensures))
+    let t = c .before .before .before .before .before .before .before .before in
+    let d = t .before .before .before in
+    let f = d .before .before .before .before .before .before .before in
+    let s = f .before .before .before .before .before .before .before in
+    rw (← (f .is-present .ensures)) (rw (toZ-ofZ (s .fits .value)) at (d .append .ensures))
 
 pub idz-append-spec : {M : Type 1} → statement M
 idz-append-spec =

@@ -330,7 +330,7 @@ pub fn instructions() {
 
     println!("\n| growth, build | rows | port, instructions a row | original, instructions a row |\n|---|---|---|---|");
     for name in NAMES {
-        // a million rows of a dictionary take callgrind minutes
+        // a million rows of a dictionary take minutes to count
         let most = if name == "blob dictionary" { 100_000 } else { 1_000_000 };
         for rows in [1_000, 10_000, 100_000, 1_000_000].into_iter().filter(|rows| *rows <= most) {
             let each = |side| row(&["build", name, side, &rows.to_string(), "plain"], rows);

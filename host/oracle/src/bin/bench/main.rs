@@ -1,7 +1,7 @@
 //! Reads and builds the same blocks by the port and by the original, in one run, and prints tables for docs/BENCHMARKS.md.
 //!
 //!     bench [reading|building]                  times: nanoseconds a row, best of several rounds, and ratios
-//!     bench instructions [reading|building]     instructions a row by callgrind: the same whatever else the machine does
+//!     bench instructions [reading|building]     instructions a row by the script `count`: the same whatever else the machine does
 use std::hint::black_box;
 use std::process::Command;
 use std::time::Instant;
@@ -35,38 +35,36 @@ fn best(rounds: usize, mut run: impl FnMut()) -> f64 {
     least
 }
 
-/// What callgrind counts: no more of the program.
+/// What is counted: no more of the program.
 #[no_mangle]
 #[inline(never)]
 fn counted_part(run: &mut dyn FnMut()) {
     run();
 }
 
-/// Runs something twice, and has callgrind count the second time.
+/// Runs something twice, and has the second time counted.
 fn count_second(mut run: impl FnMut()) {
     run();
     counted_part(black_box(&mut run));
 }
 
-/// What callgrind counts of this program with some arguments.
+/// What is counted of this program with some arguments.
 fn counted(part: &str, words: &[&str]) -> f64 {
     counted_in("counted_part", part, words)
 }
 
-/// What callgrind counts of it inside a function.
+/// What is counted of it inside a function: the script knows how on this machine.
 fn counted_in(function: &str, part: &str, words: &[&str]) -> f64 {
     let me = std::env::current_exe().expect("this program has a path");
-    let output = Command::new("valgrind")
-        .args(["--tool=callgrind", "--callgrind-out-file=/dev/null"])
-        .arg(format!("--toggle-collect={function}"))
+    let output = Command::new(concat!(env!("CARGO_MANIFEST_DIR"), "/count"))
+        .arg(function)
         .arg(me)
         .args(["count", part])
         .args(words)
         .output()
-        .expect("valgrind runs");
-    let said = String::from_utf8_lossy(&output.stderr).into_owned();
-    let line = said.lines().find(|line| line.contains("Collected :")).unwrap_or_else(|| panic!("valgrind said: {said}"));
-    line.split_whitespace().last().and_then(|word| word.parse().ok()).expect("a number of instructions")
+        .expect("the script runs");
+    let said = String::from_utf8_lossy(&output.stdout);
+    said.trim().parse().unwrap_or_else(|_| panic!("nothing was counted: {}", String::from_utf8_lossy(&output.stderr)))
 }
 
 fn main() {

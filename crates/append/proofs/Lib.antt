@@ -1,0 +1,4 @@
+mod Slots
+mod Items
+pub mod Passed
+pub mod Refusals

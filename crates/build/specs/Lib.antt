@@ -1,4 +1,0 @@
-pub mod Needs
-pub mod Building
-pub mod Finishing
-pub mod Coding

@@ -1,0 +1,18 @@
+-- `builder::create` meets its contract: each return by the law of the arm that led there. Assumes nothing.
+use borrow.Author.Needs.{needs}
+use Rattle.builder.proofs.Answers as laws
+use Rattle.builder.proofs.create.Statement.{statement}
+use Rattle.builder.proofs.create.Tie as tie
+
+returns : tie.Need-returns
+returns c =
+    let a = c .before .before .before .args in
+    laws.refused (a .kind) (a .encoding) (a .width) (a .target) (c .before .before .column-of .ensures) (c .enum-told2 .given .1)
+
+returns-2 : tie.Need-returns-2
+returns-2 c =
+    let a = c .before .before .before .before .args in
+    laws.new (a .kind) (a .encoding) (a .width) (a .target) (c .before .before .before .column-of .ensures) (c .before .enum-told .given .1) (c .new .ensures)
+
+pub create-spec : {M : Type 1} → statement M
+create-spec = tie.close (tie.spec (λ c κs. search needs) (λ c. search needs) (λ c. search needs) returns (λ c κs. search needs) returns-2)

@@ -1,0 +1,98 @@
+// Builders of blocks of every kind and encoding, by value, over lent areas.
+mod appending;
+mod finishing;
+mod sizing;
+
+use format::Column;
+use needs::Counted;
+ghost use mathlib.Core.Path.{_≡_};
+ghost use Rattle.builder.specs.Building.{empty, created, counting};
+
+// A builder: what creation was given, and what was appended so far. Any numbers can stand here.
+#[repr(C)]
+pub struct Builder {
+    pub kind: usize,
+    pub encoding: usize,
+    pub width: usize,
+    pub target: usize,
+    pub counted: Counted,
+}
+
+// What creation answers: a refused column has no builder.
+pub enum Created {
+    New(Builder),
+    Refused(u8),
+}
+
+// What an append answers: 0 and the next builder, or a refusal with the builder as it was.
+#[repr(C)]
+pub struct Appended {
+    pub number: u8,
+    pub builder: Builder,
+}
+
+// What finishing answers: the bytes written.
+#[repr(C)]
+pub struct Finished {
+    pub number: u8,
+    pub len: usize,
+}
+
+// What asking for the estimated size answers; what asking whether to finish answers.
+#[repr(C)]
+pub struct Estimated {
+    pub number: u8,
+    pub size: usize,
+}
+
+#[repr(C)]
+pub struct Asked {
+    pub number: u8,
+    pub full: bool,
+}
+
+impl Builder {
+    // The builder of these numbers, with nothing appended, whether they name a column or not.
+    pub fn new(kind: usize, encoding: usize, width: usize, target: usize) -> Builder
+        ensures { λ r. ⌜ r ≡ empty kind encoding width target ⌝ }
+    {
+        let counted = Counted {
+            rows: 0,
+            runs: 0,
+            entries: 0,
+            bytes: 0,
+            last: 0,
+            null: 0,
+            counts: 0,
+        };
+        Builder {
+            kind,
+            encoding,
+            width,
+            target,
+            counted,
+        }
+    }
+
+    // The builder with other counted numbers.
+    fn counting(self, counted: Counted) -> Builder
+        ensures { λ r. ⌜ r ≡ counting self counted ⌝ }
+    {
+        Builder { counted, ..self }
+    }
+}
+
+// A builder of a column, with nothing appended.
+pub fn create(kind: usize, encoding: usize, width: usize, target: usize) -> Created
+    ensures { λ r. ⌜ r ≡ created kind encoding width target ⌝ }
+{
+    let column = format::column_of(kind, encoding, width);
+    let Column::Of {
+        kind: _,
+        encoding: _,
+    } = column
+    else {
+        return Created::Refused(limits::refusal::COLUMN);
+    };
+    Created::New(Builder::new(kind, encoding, width, target))
+}

@@ -1,0 +1,17 @@
+pub mod Lists
+pub mod Same
+pub mod Runs
+pub mod Entries
+pub mod FieldsAndSlots
+pub mod Flags
+pub mod OneRowMore
+pub mod Measures
+pub mod Records
+pub mod AreasOfRows
+pub mod Finding
+pub mod StepOfRow
+pub mod Finishing
+pub mod BuilderOfRows
+pub mod Verdict
+pub mod Built
+pub mod Refusing

@@ -1,0 +1,2 @@
+pub mod TextsWritten
+pub mod RunTexts

@@ -1,0 +1,6 @@
+pub mod Letters
+pub mod FirstNul
+pub mod Groups
+pub mod EndsStored
+pub mod Words
+pub mod TextsLaid

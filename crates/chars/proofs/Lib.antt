@@ -1,6 +1,0 @@
-pub mod Counting
-pub mod Nearest
-pub mod Grouping
-pub mod Ending
-pub mod Words
-pub mod Laying

@@ -1,0 +1,4 @@
+pub mod Lengths
+pub mod SlotLoops
+pub mod Bits
+pub mod Writing

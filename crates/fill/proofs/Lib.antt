@@ -1,0 +1,3 @@
+pub mod LookedAt
+pub mod FilledAreas
+pub mod UnusedAreas

@@ -1,5 +1,0 @@
-pub mod Ending
-pub mod Walking
-pub mod Alike
-pub mod Words
-pub mod There

@@ -1,0 +1,2 @@
+pub mod ItemRows
+pub mod LoneChars

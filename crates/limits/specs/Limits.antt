@@ -1,0 +1,34 @@
+-- 01's limits, by name. Assumes nothing.
+use Prim.Native.Nat.{ℕ}
+
+-- rows of a block
+abbrev pub MOST_ROWS : ℕ
+MOST_ROWS = 281474976710655
+
+-- stored items or runs
+abbrev pub MOST_ITEMS : ℕ
+MOST_ITEMS = 1048576
+
+-- entries of a dictionary
+abbrev pub MOST_ENTRIES : ℕ
+MOST_ENTRIES = 65536
+
+-- bytes of a block
+abbrev pub MOST_BYTES : ℕ
+MOST_BYTES = 16777216
+
+-- rows of one run
+abbrev pub MOST_COUNT : ℕ
+MOST_COUNT = 4294967295
+
+-- bytes of char and blob rows that one batch gives
+abbrev pub MOST_GIVEN : ℕ
+MOST_GIVEN = 4294967295
+
+-- bytes of the listing program's input
+abbrev pub MOST_INPUT : ℕ
+MOST_INPUT = 65536
+
+-- bytes of a char item
+abbrev pub MOST_WIDTH : ℕ
+MOST_WIDTH = 255

@@ -1,0 +1,58 @@
+-- 01's refusal numbers, by name; 0 is done. Assumes nothing.
+use Prim.Native.Nat.{ℕ}
+
+-- kind, encoding or width not as 01 has them
+abbrev pub COLUMN : ℕ
+COLUMN = 1
+
+-- an appended char item longer than the width, or an integer outside its kind
+abbrev pub ITEM : ℕ
+ITEM = 2
+
+-- a limit is passed
+abbrev pub LIMIT : ℕ
+LIMIT = 3
+
+-- lent room too short for the whole answer
+abbrev pub ROOM : ℕ
+ROOM = 4
+
+-- a batch of 0 rows
+abbrev pub NO_ROWS : ℕ
+NO_ROWS = 6
+
+-- a skip above the rows remaining
+abbrev pub TOO_FAR : ℕ
+TOO_FAR = 7
+
+-- state and lent memory disagree
+abbrev pub DISAGREE : ℕ
+DISAGREE = 9
+
+-- the block is cut
+abbrev pub CUT : ℕ
+CUT = 10
+
+-- a length is wrong
+abbrev pub LENGTH : ℕ
+LENGTH = 11
+
+-- a run count is cut or too large
+abbrev pub VARINT : ℕ
+VARINT = 12
+
+-- a run count is 0, or the counts don't fill their section
+abbrev pub COUNTS : ℕ
+COUNTS = 13
+
+-- a blob end falls or passes the data
+abbrev pub ENDS : ℕ
+ENDS = 14
+
+-- a dictionary key names no entry
+abbrev pub KEY : ℕ
+KEY = 15
+
+-- the run counts don't add up to the rows
+abbrev pub SUM : ℕ
+SUM = 16

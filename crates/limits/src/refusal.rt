@@ -1,0 +1,43 @@
+// The numbers of the refusals, by the names that include/idzulgar.h has too. 0 is done.
+
+// Kind, encoding or width is not one of the pairs.
+pub const COLUMN: u8 = 1;
+
+// An appended item doesn't fit its kind.
+pub const ITEM: u8 = 2;
+
+// A limit is passed.
+pub const LIMIT: u8 = 3;
+
+// Lent room is too short for the whole answer.
+pub const ROOM: u8 = 4;
+
+// A batch of 0 rows.
+pub const NO_ROWS: u8 = 6;
+
+// A skip above the rows remaining.
+pub const TOO_FAR: u8 = 7;
+
+// The record and the lent memory disagree.
+pub const DISAGREE: u8 = 9;
+
+// The block is cut.
+pub const CUT: u8 = 10;
+
+// A length is wrong.
+pub const LENGTH: u8 = 11;
+
+// A run count is cut or too large.
+pub const VARINT: u8 = 12;
+
+// A run count is 0, or the counts don't fill their section.
+pub const COUNTS: u8 = 13;
+
+// A blob end falls or passes the data.
+pub const ENDS: u8 = 14;
+
+// A dictionary key names no entry.
+pub const KEY: u8 = 15;
+
+// The run counts don't add up to the rows.
+pub const SUM: u8 = 16;

@@ -1,0 +1,5 @@
+pub mod FieldTests
+pub mod Passed
+pub mod Alike
+pub mod Words
+pub mod There

@@ -1,0 +1,5 @@
+pub mod Encodings
+pub mod Lengths
+pub mod Limits
+pub mod Short
+pub mod Wrong

@@ -1,4 +1,0 @@
-pub mod Lengths
-pub mod Laying
-pub mod Bits
-pub mod Writing

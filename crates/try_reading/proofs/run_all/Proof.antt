@@ -1,0 +1,67 @@
+-- `try_reading::run_all` is safe and ends: the block keeps its length, and the loop's measure is the commands that there can still be. Assumes nothing.
+use borrow.Author.Needs.{needs}
+use mathlib.Core.Path.{_≡_}
+use lib.ListN.{length}
+use Rattle.try_reading.proofs.run_all.Statement.{statement}
+use Rattle.try_reading.proofs.run_all.Tie as tie
+
+abbrev Inv-loop : tie.InvT-loop
+Inv-loop s block₀ state₀ left₀ t5 block state left = length block ≡ length block₀
+
+abbrev μ-loop : tie.MeasureT-loop
+μ-loop s block₀ state₀ left₀ t5 block state left = left
+
+no-reader-requires : tie.Need-no-reader-requires Inv-loop μ-loop
+no-reader-requires c κs = search needs
+
+loop-holds : tie.Need-loop-holds Inv-loop μ-loop
+loop-holds c = search needs
+
+same-length : tie.Need-same-length Inv-loop μ-loop
+same-length c = search needs
+
+returns : tie.Need-returns Inv-loop μ-loop
+returns c = search needs
+
+run-requires : tie.Need-run-requires Inv-loop μ-loop
+run-requires c κs = search needs
+
+slice-aggregate-say : tie.Need-slice-aggregate-say Inv-loop μ-loop
+slice-aggregate-say c = search needs
+
+say-requires : tie.Need-say-requires Inv-loop μ-loop
+say-requires c κs = search needs
+
+sub-left : tie.Need-sub-left Inv-loop μ-loop
+sub-left c = search needs
+
+loop-less : tie.Need-loop-less Inv-loop μ-loop
+loop-less c = search needs
+
+loop-again : tie.Need-loop-again Inv-loop μ-loop
+loop-again c = search needs
+
+same-length-2 : tie.Need-same-length-2 Inv-loop μ-loop
+same-length-2 c = search needs
+
+returns-2 : tie.Need-returns-2 Inv-loop μ-loop
+returns-2 c = search needs
+
+pub run-all-spec : {M : Type 1} → statement M
+run-all-spec =
+    tie.close
+    (tie.spec
+    Inv-loop
+    μ-loop
+    no-reader-requires
+    loop-holds
+    same-length
+    returns
+    run-requires
+    slice-aggregate-say
+    say-requires
+    sub-left
+    loop-less
+    loop-again
+    same-length-2
+    returns-2)

@@ -1,0 +1,278 @@
+// Runs the commands of standard input on blocks and readers, and writes all that comes back, in hex: numbers, counts, the whole
+// reader and every lent byte. tools/answers.py makes the commands, and by a model of its own the answers (the file stdout).
+//
+// A command is a byte and its numbers. A number below 255 is one byte; any other is the byte 255 and eight bytes, lowest first.
+// 0 puts a block together: the number of parts; for each how often it comes, its length and its bytes.
+// 1 opens it: kind, encoding, width, rows.
+// 2 skips: rows.
+// 3 reads a batch: its size; the lengths of the lent values, flags, ends and bytes.
+// 4 asks for the rows that remain.
+// 5 sets a field of the reader: which one, counted from 0; the number.
+// 6 changes a byte of the block: the place; the byte, as it is.
+// 7 lends the block at another length from here on: the length.
+use block::Opened;
+use block::Reader;
+use script::byte;
+use script::first;
+use script::number;
+use script::past;
+use script::say;
+use script::show;
+use script::show_byte;
+use script::show_size;
+use show_reader::give_into;
+use show_reader::show_reader;
+ghost use mathlib.Core.Path.{_≡_};
+ghost use lib.ListN.{length};
+
+// What stands between two commands: the place in the input, the length of the lent block, the reader.
+struct State {
+    at: usize,
+    len: usize,
+    reader: Reader,
+}
+
+// The place after a part of the block: in the input, and in the block.
+struct Places {
+    at: usize,
+    to: usize,
+}
+
+// ---- blocks
+
+fn put(block: &mut [u8], to: usize, b: u8) {
+    if to < block.len() {
+        block[to] = b;
+    }
+}
+
+// The n bytes of the input from a place on, into the block.
+fn copy(s: &[u8], at: usize, n: usize, block: &mut [u8], to: usize) {
+    let mut i = 0;
+    while i < n {
+        put(block, past(to, i), byte(s, past(at, i)));
+        i += 1;
+    }
+}
+
+// The same so many times, one after another. What comes back is the place after them.
+fn copies(s: &[u8], at: usize, n: usize, times: usize, block: &mut [u8], to: usize) -> usize {
+    let mut next = to;
+    let mut left = times;
+    while 0 < left {
+        copy(s, at, n, block, next);
+        next = past(next, n);
+        left -= 1;
+    }
+    next
+}
+
+// One part.
+fn part(s: &[u8], from: Places, block: &mut [u8]) -> Places {
+    let times = number(s, from.at);
+    let n = number(s, times.next);
+    Places {
+        at: past(n.next, n.value),
+        to: copies(s, n.next, n.value, times.value, block, from.to),
+    }
+}
+
+// All the parts.
+fn parts(s: &[u8], at: usize, block: &mut [u8]) -> Places {
+    let n = number(s, at);
+    let mut places = Places { at: n.next, to: 0 };
+    let mut left = n.value;
+    while 0 < left {
+        places = part(s, places, block);
+        left -= 1;
+    }
+    places
+}
+
+fn load(s: &[u8], state: State, block: &mut [u8]) -> State {
+    let places = parts(s, state.at, block);
+    say(b"block");
+    show_size(places.to);
+    let mut next = state;
+    next.at = places.at;
+    next.len = places.to;
+    next
+}
+
+fn change(s: &[u8], state: State, block: &mut [u8]) -> State {
+    let place = number(s, state.at);
+    let b = byte(s, place.next);
+    put(block, place.value, b);
+    say(b"change");
+    let mut next = state;
+    next.at = past(place.next, 1);
+    next
+}
+
+fn lend(s: &[u8], state: State) -> State {
+    let n = number(s, state.at);
+    say(b"lend");
+    let mut next = state;
+    next.at = n.next;
+    next.len = n.value;
+    next
+}
+
+// ---- readers
+
+fn with(r: Reader, field: usize, value: usize) -> Reader {
+    let mut next = r;
+    match field {
+        0 => next.kind = value,
+        1 => next.encoding = value,
+        2 => next.width = value,
+        3 => next.rows = value,
+        4 => next.len = value,
+        5 => next.head.runs = value,
+        6 => next.head.counts = value,
+        7 => next.head.keys = value,
+        8 => next.head.entries = value,
+        9 => next.place = value,
+        10 => next.spot.run = value,
+        11 => next.spot.at = value,
+        _ => next.spot.taken = value,
+    }
+    next
+}
+
+fn set(s: &[u8], state: State) -> State {
+    let field = number(s, state.at);
+    let value = number(s, field.next);
+    say(b"set");
+    State {
+        at: value.next,
+        len: state.len,
+        reader: with(state.reader, field.value, value.value),
+    }
+}
+
+fn opened(answer: Opened) -> Reader {
+    say(b"open");
+    match answer {
+        Opened::Open(r) => {
+            show(0);
+            show_reader(r);
+            r
+        }
+        Opened::Refused(number) => {
+            show_byte(number);
+            block::no_reader()
+        }
+    }
+}
+
+fn open(s: &[u8], state: State, block: &[u8]) -> State {
+    let kind = number(s, state.at);
+    let encoding = number(s, kind.next);
+    let width = number(s, encoding.next);
+    let rows = number(s, width.next);
+    let bytes = first(block, state.len);
+    let answer = block::open(kind.value, encoding.value, width.value, rows.value, bytes);
+    State {
+        at: rows.next,
+        len: state.len,
+        reader: opened(answer),
+    }
+}
+
+fn skip(s: &[u8], state: State, block: &[u8]) -> State {
+    let n = number(s, state.at);
+    let reader = state.reader;
+    let answer = reader.skip(first(block, state.len), n.value);
+    say(b"skip");
+    show_byte(answer.number);
+    let after = answer.reader;
+    show_reader(after);
+    State {
+        at: n.next,
+        len: state.len,
+        reader: after,
+    }
+}
+
+fn remaining(state: State) -> State {
+    let reader = state.reader;
+    let answer = reader.remaining();
+    say(b"left");
+    show_byte(answer.number);
+    show_size(answer.rows);
+    state
+}
+
+fn batch(s: &[u8], state: State, block: &[u8]) -> State {
+    let size = number(s, state.at);
+    let values = number(s, size.next);
+    let flags = number(s, values.next);
+    let ends = number(s, flags.next);
+    let bytes = number(s, ends.next);
+    let reader = state.reader;
+    let part = first(block, state.len);
+    State {
+        at: bytes.next,
+        len: state.len,
+        reader: give_into(
+            reader,
+            part,
+            size.value,
+            values.value,
+            flags.value,
+            ends.value,
+            bytes.value,
+        ),
+    }
+}
+
+// ---- the commands
+
+fn run(s: &[u8], state: State, block: &mut [u8]) -> State {
+    let command = byte(s, state.at);
+    let mut next = state;
+    next.at = past(state.at, 1);
+    match command {
+        0 => load(s, next, block),
+        1 => open(s, next, block),
+        2 => skip(s, next, block),
+        3 => batch(s, next, block),
+        4 => remaining(next),
+        5 => set(s, next),
+        6 => change(s, next, block),
+        _ => lend(s, next),
+    }
+}
+
+// Each command takes a byte at least, so there are no more of them than bytes.
+fn run_all(s: &[u8], block: &mut [u8]) {
+    let mut state = State {
+        at: 0,
+        len: 0,
+        reader: block::no_reader(),
+    };
+    let mut left = s.len();
+    while 0 < left {
+        if s.len() <= state.at {
+            return;
+        }
+        state = run(s, state, block);
+        say(b"\n");
+        left -= 1;
+    }
+}
+
+// Room for the largest block: 1,048,576 runs over a nullable block of bools.
+fn room() -> [u8; 2300000]
+    ensures { λ r. ⌜ 2300000 ≡ length r ⌝ }
+{
+    [0; 2300000]
+}
+
+fn main() {
+    let mut input = io::large_buffer();
+    let mut block = room();
+    let n = io::read_full(0, &mut input);
+    run_all(&input[..n], &mut block);
+}
