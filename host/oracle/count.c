@@ -12,9 +12,11 @@ struct insn;
 typedef void (*on_block)(plugin_id, struct block *);
 typedef void (*on_run)(unsigned cpu, void *data);
 typedef void (*on_end)(plugin_id, void *data);
+enum inline_op { ADD_U64 };
 extern void qemu_plugin_register_vcpu_tb_trans_cb(plugin_id, on_block);
 extern void qemu_plugin_register_vcpu_tb_exec_cb(struct block *, on_run, int flags, void *data);
 extern void qemu_plugin_register_atexit_cb(plugin_id, on_end, void *data);
+extern void qemu_plugin_register_vcpu_insn_exec_inline(struct insn *, enum inline_op, void *sum, uint64_t);
 extern size_t qemu_plugin_tb_n_insns(const struct block *);
 extern struct insn *qemu_plugin_tb_get_insn(const struct block *, size_t);
 extern const void *qemu_plugin_insn_data(const struct insn *);
@@ -25,6 +27,8 @@ int qemu_plugin_version = 1;
 
 static const char *function = "";
 static uint64_t collected;
+/* The instructions executed since the program's start, and those before the piece that runs now. */
+static uint64_t executed, before;
 /* 0 outside the function, else 1 and the calls under way below it. */
 static uint64_t depth;
 
@@ -34,6 +38,9 @@ struct piece {
     int inside;
     int step;
 };
+
+/* The piece that runs now, or none. */
+static const struct piece *now;
 
 static int step_of(const struct insn *insn) {
     const unsigned char *code = qemu_plugin_insn_data(insn);
@@ -45,13 +52,22 @@ static int step_of(const struct insn *insn) {
     return code[at] == 0xc3 || code[at] == 0xc2 ? -1 : 0;
 }
 
+/* The piece that ran is over. The emulator ends a piece before an instruction that goes on in the next page, and lists that instruction
+   both there and at the start of the next piece: so instructions are counted as they are executed, and a piece that executed fewer than it
+   lists did not come to the call or the return at its end. */
+static void leave(void) {
+    uint64_t ran = executed - before;
+    before = executed;
+    if (!now || depth == 0) return;
+    collected += ran;
+    if (ran == now->length) depth += now->step;
+}
+
 static void run(unsigned cpu, void *data) {
-    const struct piece *piece = data;
     (void)cpu;
-    if (depth == 0 && piece->inside) depth = 1;
-    if (depth == 0) return;
-    collected += piece->length;
-    depth += piece->step;
+    leave();
+    now = data;
+    if (depth == 0 && now->inside) depth = 1;
 }
 
 static void translated(plugin_id id, struct block *block) {
@@ -64,10 +80,13 @@ static void translated(plugin_id id, struct block *block) {
     piece->inside = symbol && strcmp(symbol, function) == 0;
     piece->step = step_of(qemu_plugin_tb_get_insn(block, length - 1));
     qemu_plugin_register_vcpu_tb_exec_cb(block, run, 0, piece);
+    for (size_t i = 0; i < length; i++)
+        qemu_plugin_register_vcpu_insn_exec_inline(qemu_plugin_tb_get_insn(block, i), ADD_U64, &executed, 1);
 }
 
 static void ended(plugin_id id, void *data) {
     (void)id, (void)data;
+    leave();
     fprintf(stderr, "Collected : %" PRIu64 "\n", collected);
 }
 

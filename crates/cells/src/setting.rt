@@ -79,31 +79,10 @@ fn cells_at(s: &[u8], at: usize) -> Cells {
     }
 }
 
-// No cells.
-fn none(at: usize) -> Cells {
-    Cells {
-        area: 0,
-        place: 0,
-        count: 0,
-        start: 0,
-        step: 0,
-        next: at,
-    }
-}
-
-fn cells_of(s: &[u8], at: usize, sets: bool) -> Cells {
-    if sets {
-        say(b"cells");
-        return cells_at(s, at);
-    }
-    none(at)
-}
-
-// The cells that a command sets whose numbers stand at this place, if it sets any; the place after it.
+// Sets the cells that the numbers at this place name; the place after them.
 pub fn set(
     s: &[u8],
     at: usize,
-    sets: bool,
     items: &mut [u8],
     ends: &mut [u32],
     flags: &mut [u8],
@@ -112,7 +91,8 @@ pub fn set(
     lens: &mut [u8],
     room: &mut [u8],
 ) -> usize {
-    let cells = cells_of(s, at, sets);
+    say(b"cells");
+    let cells = cells_at(s, at);
     let area = cells.area;
     match area {
         0 => set_bytes(items, cells),

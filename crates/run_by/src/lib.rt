@@ -37,7 +37,7 @@ fn run(
     let command = byte(s, state.at);
     let it = build_by::begin(s, state, command);
     if command == 7 {
-        let at = cells::set(s, it.at, true, items, ends, flags, counts, keys, lens, room);
+        let at = cells::set(s, it.at, items, ends, flags, counts, keys, lens, room);
         return moved(it, at);
     }
     let appended = build_by::append(s, it, command, items, ends, flags, counts, keys, lens, room);

@@ -1,9 +1,9 @@
--- `try_replay::run_all` is safe and ends: the areas keep their lengths, and the measure is the commands that there can still be. Assumes nothing.
+-- `replay_run::run_all` is safe and ends: the areas keep their lengths, and the measure is the commands that there can still be. Assumes nothing.
 use borrow.Author.Needs.{needs}
 use mathlib.Core.Path.{_≡_}
 use lib.ListN.{length}
-use Rattle.try_replay.proofs.run_all.Statement.{statement}
-use Rattle.try_replay.proofs.run_all.Tie as tie
+use Rattle.replay_run.proofs.run_all.Statement.{statement}
+use Rattle.replay_run.proofs.run_all.Tie as tie
 
 abbrev Inv-loop : tie.InvT-loop
 Inv-loop s items₀ ends₀ flags₀ counts₀ keys₀ lens₀ room₀ state₀ left₀ t11 items ends flags counts keys lens room state left =
@@ -17,9 +17,6 @@ Inv-loop s items₀ ends₀ flags₀ counts₀ keys₀ lens₀ room₀ state₀ 
 
 abbrev μ-loop : tie.MeasureT-loop
 μ-loop s items₀ ends₀ flags₀ counts₀ keys₀ lens₀ room₀ state₀ left₀ t11 items ends flags counts keys lens room state left = left
-
-no-builder-requires : tie.Need-no-builder-requires Inv-loop μ-loop
-no-builder-requires c κs = search needs
 
 start-requires : tie.Need-start-requires Inv-loop μ-loop
 start-requires c κs = search needs
@@ -85,7 +82,6 @@ run-all-spec =
     (tie.spec
     Inv-loop
     μ-loop
-    no-builder-requires
     start-requires
     loop-holds
     run-requires

@@ -2,6 +2,7 @@
 use crate::State;
 use builder::Builder;
 use builder::Created;
+use builder::Finished;
 use cells::Lent;
 use read_back::Reading;
 use read_back::named_at;
@@ -30,13 +31,6 @@ fn created(answer: Created) -> Builder {
 fn moved(reading: Reading, at: usize) -> Reading {
     let mut next = reading;
     next.at = at;
-    next
-}
-
-// With a block of another length.
-fn built(reading: Reading, len: usize) -> Reading {
-    let mut next = reading;
-    next.len = len;
     next
 }
 
@@ -70,6 +64,7 @@ struct Given {
 }
 
 fn rows_at(s: &[u8], at: usize) -> Given {
+    say(b"row");
     let times = number(s, at);
     let presence = number(s, times.next);
     let value = number(s, presence.next);
@@ -88,6 +83,11 @@ fn rows_at(s: &[u8], at: usize) -> Given {
         from: len.next,
         next: past(len.next, len.value),
     }
+}
+
+// Their bytes.
+fn text_of(s: &[u8], given: Given) -> &[u8] {
+    first(rest(s, given.from), given.rows.len)
 }
 
 // Every area is lent whole.
@@ -122,8 +122,6 @@ pub fn append(
     lens: &mut [u8],
 ) -> State {
     let given = rows_at(s, state.reading.at);
-    let item = first(rest(s, given.from), given.rows.len);
-    say(b"row");
     let turn = trial::append_rows(
         state.builder,
         whole(),
@@ -134,14 +132,31 @@ pub fn append(
         keys,
         lens,
         given.rows,
-        item,
+        text_of(s, given),
     );
     appended(state.reading, given.next, turn)
 }
 
-fn show_block(room: &[u8], n: usize) {
+// With a block of another length.
+fn built(reading: Reading, len: usize) -> Reading {
+    let mut next = reading;
+    next.len = len;
+    next
+}
+
+// Both questions once more, for a null.
+fn ask_last(builder: Builder) {
+    say(b"end");
+    trial::ask(builder, false, 0);
+}
+
+fn finished(state: State, answer: Finished, room: &[u8]) -> State {
+    refused(answer.number);
     say(b"\nblock ");
-    show_bytes(first(room, n));
+    show_bytes(first(room, answer.len));
+    let mut next = state;
+    next.reading = built(state.reading, answer.len);
+    next
 }
 
 pub fn finish(
@@ -154,13 +169,8 @@ pub fn finish(
     lens: &[u8],
     room: &mut [u8],
 ) -> State {
-    say(b"end");
-    trial::ask(state.builder, false, 0);
     let builder = state.builder;
+    ask_last(builder);
     let answer = builder.finish(items, ends, flags, counts, keys, lens, room);
-    refused(answer.number);
-    show_block(room, answer.len);
-    let mut next = state;
-    next.reading = built(state.reading, answer.len);
-    next
+    finished(state, answer, room)
 }
