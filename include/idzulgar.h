@@ -1,10 +1,13 @@
 /* Column blocks of risinglight, built and read by proved code. Link target/staticlib/libcapi.a, which `rt staticlib capi` makes.
+ * docs/FORMAT.md says what a block's bytes mean, and what each call answers and refuses, in which order.
  *
  * Every call takes any numbers, records and bytes, and answers with a number below; 0 is done. A refusal hands back the record that
- * it was given (an opening: a record that every call refuses as 9), counts of 0, and writes nothing.
+ * it was given, counts of 0, and writes nothing; idz_remaining, idz_finish, idz_estimate and idz_should_finish hand it back when done,
+ * too. Opening and creation are given no record: beside their refusal stands one of kind 255, which every call refuses as 9, but for
+ * a batch of 0 rows, which is 6.
  *
- * What no call can test, and the caller sees to: a pointer that goes with a length points to that many items, is aligned for them
- * and isn't NULL (with length 0 it may point anywhere else); memory that a call writes overlaps nothing else that the call is lent.
+ * What no call can test, and the caller sees to: a pointer that goes with a length points to that many items and is aligned for them
+ * (with length 0 it may be NULL or point anywhere); memory that a call writes overlaps nothing else that the call is lent.
  * Nothing is kept between calls but the record, and nothing is allocated, so calls on several threads don't touch each other.
  *
  * Sizes, counts and record fields are 64 bits wide: the library is for x86-64.
@@ -19,6 +22,9 @@
 #ifdef __cplusplus
 extern "C" {
 #endif
+
+/* Which records and calls these are. In 1 the answers of idz_remaining, idz_finish, idz_estimate and idz_should_finish had no record. */
+#define IDZ_VERSION 2
 
 /* What comes back. */
 enum {
@@ -85,6 +91,7 @@ typedef struct {
 typedef struct {
     uint8_t number;
     size_t rows;
+    idz_reader reader; /* as it was given */
 } idz_left;
 
 /* A builder: what creation was given, and what was appended so far. Between calls its rows lie in six areas, which the caller lends to
@@ -106,17 +113,20 @@ typedef struct {
 
 typedef struct {
     uint8_t number;
-    size_t len; /* bytes written */
+    size_t len;          /* bytes written */
+    idz_builder builder; /* as it was given */
 } idz_finished;
 
 typedef struct {
     uint8_t number;
     size_t size;
+    idz_builder builder; /* as it was given */
 } idz_estimated;
 
 typedef struct {
     uint8_t number;
     bool full;
+    idz_builder builder; /* as it was given */
 } idz_asked;
 
 /* Opens a block of `rows` rows: 0 exactly for a sound block, else 1, 3 or 10 to 16. The block isn't kept: lend it to each call. */

@@ -62,14 +62,43 @@ def listing(data):
         reader = model.open_block(kind, encoding, width, rows, block)
     except Refused as e:
         return ["refused %d" % e.number], e.number
-    lines = ["rows %d" % rows]
-    for i in range(min(rows, 1000)):
-        [(place, _)], after = model.row_by_row(reader, block, 1)
-        lines.append("%d %s" % (i, row_text(kind, model.row_at(reader, block, place))))
-        reader = after
+    return rows_listed(reader, block)
+
+
+def rows_listed(reader, block):
+    """The lines of a reader's rows, a batch for each, up to one that is refused, and its number or 0."""
+    lines = []
+    try:
+        rows = model.remaining(reader)
+        lines.append("rows %d" % rows)
+        for i in range(min(rows, 1000)):
+            values, flags, ends, data = [0], [0], [0], [0] * 65536
+            _, total, after = model.batch(reader, block, 1, values, flags, ends, data)
+            row = None if not flags[0] else values[0] if reader.kind in FIXED else bytes(data[:total])
+            lines.append("%d %s" % (i, row_text(reader.kind, row)))
+            reader = after
+    except Refused as e:
+        return lines + ["refused %d" % e.number], e.number
     if rows > 1000:
         lines.append("more %d" % (rows - 1000))
     return lines + ["end"], 0
+
+
+def changed_listing(data, place, passed, value):
+    """The same of an input that is opened, of which rows are passed over, and whose block is then changed at a place."""
+    block = bytearray(data[8:])
+    try:
+        kind, encoding, width, zero, rows = fields(data[:8])
+        reader = model.open_block(kind, encoding, width, rows, bytes(block))
+        try:
+            reader = model.skip(reader, bytes(block), passed)
+        except Refused:
+            pass
+    except Refused:
+        reader = model.Reader(kind=255)
+    if place < len(block):
+        block[place] = value
+    return rows_listed(reader, bytes(block))
 
 
 # ---- inputs
@@ -116,6 +145,7 @@ class Script:
         self.packed = bytearray()
         self.lines = []
         self.refusals = collections.Counter()
+        self.changes = collections.Counter()
 
     def list(self, data, expect=None):
         given = data.rstrip(b"\0")
@@ -125,6 +155,16 @@ class Script:
         assert expect in (None, number), (expect, number, data[:40])
         self.lines += lines
         self.refusals[number] += 1
+
+
+    def change(self, data, place, passed, value, expect=None):
+        given = data.rstrip(b"\0")
+        self.packed += (2**31 + len(data)).to_bytes(4, "little") + len(given).to_bytes(2, "little") + given
+        self.packed += place.to_bytes(2, "little") + passed.to_bytes(2, "little") + bytes([value])
+        lines, number = changed_listing(data, place, passed, value)
+        assert expect in (None, lines), (expect, lines)
+        self.lines += lines
+        self.changes[number] += 1
 
 
 def limits(s):
@@ -199,6 +239,31 @@ def many(s):
     s.list(of_rows(3, 4, 0, [i % 7 - 3 if i % 5 else None for i in range(1100)]), 0)
 
 
+NOWHERE = 65535
+
+
+def changed(s):
+    """Blocks that change after they are opened: a row that is refused ends the listing, and is no null."""
+    run = SAMPLES["run_length_i32"]
+    s.change(run, NOWHERE, 0, 0, ["rows 4", "0 7", "1 7", "2 7", "3 -1", "end"])
+    s.change(run, NOWHERE, 3, 0, ["rows 1", "0 -1", "end"])
+    s.change(run, NOWHERE, 4, 0, ["rows 0", "end"])
+    s.change(run, NOWHERE, 5, 0, ["rows 4", "0 7", "1 7", "2 7", "3 -1", "end"])  # a skip that is refused
+    s.change(run, 9, 0, 0, ["rows 4", "0 7", "1 7", "2 7", "refused 9"])  # the second count is 0
+    s.change(run, 8, 0, 0, ["rows 4", "refused 9"])  # the first
+    s.change(run, 8, 2, 1, ["rows 2", "refused 9"])  # fewer rows than were passed over
+    keys = SAMPLES["dictionary_blob"]
+    last = keys[8:].index(bytes.fromhex("02000080 02000000"))
+    s.change(keys, last, 0, 3, ["rows 4", "0 6162", "1 null", "2 6162", "refused 9"])  # a key that names no entry
+    s.change(keys, last, 3, 3, ["rows 1", "refused 9"])
+    blobs = of_rows(BLOB, 0, 0, [b"a", b"bc", b""])
+    s.change(blobs, 4, 0, 4, ["rows 3", "0 61", "refused 9"])  # an end past the data
+    s.change(blobs, 4, 0, 0, ["rows 3", "0 61", "refused 9"])  # an end that falls
+    s.change(blobs, 4, 2, 4, ["rows 1", "refused 9"])
+    s.change(C, 6, 0, 2, ["rows 3", "0 null", "1 0", "2 null", "end"])  # other flags are other rows
+    s.change(C[:-1], NOWHERE, 0, 0, ["refused 9"])  # not opened
+
+
 def some_row(r, kind):
     if kind in FIXED:
         size = FIXED[kind][0]
@@ -230,6 +295,18 @@ def at_random(s, times):
             s.list(bytes(damaged))
 
 
+def changed_at_random(s, times):
+    r = s.random
+    for _ in range(times):
+        kind, encoding = r.randrange(10), r.choice([0, 1, 2, 2, 3, 3, 4, 4])
+        width = r.choice([1, 5]) if kind == CHAR else 0
+        rows = []
+        for _ in range(r.randrange(1, 6)):
+            rows += [None if r.random() < 0.2 else some_row(r, kind)] * r.choice([1, 1, 3])
+        data = of_rows(kind, encoding, width, rows)
+        s.change(data, r.randrange(min(len(data) - 8, 40)), r.randrange(3), r.choice([0, 1, 2, 127, 128, 255, r.randrange(256)]))
+
+
 def main(args):
     seed, folder = (int(args[0]), pathlib.Path(args[1])) if args else (SEED, ROOT / "crates/try_listing")
     s = Script(seed)
@@ -238,10 +315,13 @@ def main(args):
     texts(s)
     many(s)
     at_random(s, 200)
+    changed(s)
+    changed_at_random(s, 200)
     assert len(s.packed) <= 65536, len(s.packed)
     (folder / "stdin").write_bytes(s.packed)
     (folder / "stdout").write_text("".join(line + "\n" for line in s.lines))
-    print("%d inputs, %d bytes; answers: %s" % (sum(s.refusals.values()), len(s.packed), dict(sorted(s.refusals.items()))))
+    print("%d inputs, %d bytes; answers: %s; changed: %s" % (sum(s.refusals.values()), len(s.packed),
+          dict(sorted(s.refusals.items())), dict(sorted(s.changes.items()))))
     if not args:
         (ROOT / "crates/list/stdin").write_bytes(C)
         (ROOT / "crates/list/stdout").write_text("".join(line + "\n" for line in listing(C)[0]))

@@ -29,6 +29,8 @@ static idz_finished finish(idz_builder builder, size_t room) {
     return idz_finish(builder, items, 64, ends, 8, flags, 2, counts, 8, keys, 8, lens, 8, out, room);
 }
 
+static int same(idz_builder one, idz_builder other) { return memcmp(&one, &other, sizeof one) == 0; }
+
 /* Sample A: i32, run-length, 7 7 7 -1. */
 static void run_length(void) {
     static const uint8_t block[] = {2, 0, 0, 0, 2, 0, 0, 0, 3, 1, 7, 0, 0, 0, 255, 255, 255, 255};
@@ -47,7 +49,10 @@ static void run_length(void) {
     expect(asked.number == IDZ_DONE && asked.full, "8 bytes and 4 more are above the target");
     idz_finished finished = finish(builder, 64);
     expect(finished.number == IDZ_DONE && finished.len == sizeof block && memcmp(out, block, sizeof block) == 0, "sample A");
-    expect(finish(builder, sizeof block - 1).number == IDZ_ROOM, "a byte of room too few is 4");
+    idz_finished short_of = finish(builder, sizeof block - 1);
+    expect(short_of.number == IDZ_ROOM && short_of.len == 0, "a byte of room too few is 4");
+    expect(same(estimated.builder, builder) && same(asked.builder, builder), "estimate and should_finish hand the builder back");
+    expect(same(finished.builder, builder) && same(short_of.builder, builder), "finish too, done or refused");
 }
 
 /* Sample B: blob, dictionary, "ab" null "ab" "c". */
@@ -66,16 +71,24 @@ static void dictionary(void) {
 static void refused(void) {
     idz_creation creation = idz_create(IDZ_CHAR, IDZ_PLAIN, 0, 0);
     expect(creation.number == IDZ_COLUMN, "char of 0 is 1");
-    expect(idz_estimate(creation.builder).number == IDZ_DISAGREE, "and its record is refused as 9");
+    idz_estimated estimated = idz_estimate(creation.builder);
+    idz_asked asked = idz_should_finish(creation.builder, 1, 1);
+    idz_finished finished = finish(creation.builder, 64);
+    expect(estimated.number == IDZ_DISAGREE && estimated.size == 0, "and estimate refuses its record as 9");
+    expect(asked.number == IDZ_DISAGREE && !asked.full, "should_finish too");
+    expect(finished.number == IDZ_DISAGREE && finished.len == 0, "finish too");
+    expect(same(estimated.builder, creation.builder) && same(asked.builder, creation.builder) && same(finished.builder, creation.builder),
+           "all three hand it back");
     idz_builder builder = idz_create(IDZ_CHAR, IDZ_PLAIN, 2, 0).builder;
     expect(append(builder, 1, 0, "abc", 64).number == IDZ_ITEM, "three bytes in char 2 are 2");
     idz_appended appended = append(builder, 1, 0, "ab", 1);
-    expect(appended.number == IDZ_ROOM && memcmp(&appended.builder, &builder, sizeof builder) == 0, "a byte of room for two is 4");
+    expect(appended.number == IDZ_ROOM && same(appended.builder, builder), "a byte of room for two is 4");
     builder.bytes = 1;
     expect(append(builder, 1, 0, "ab", 64).number == IDZ_DISAGREE, "a record that contradicts itself is 9");
 }
 
 int main(void) {
+    expect(IDZ_VERSION == 2, "the header's version");
     run_length();
     dictionary();
     refused();

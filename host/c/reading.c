@@ -32,6 +32,8 @@ static idz_given batch(idz_reader reader, const uint8_t *block, size_t len, size
     return idz_batch(reader, block, len, size, values, 4, flags, 4, ends, 4, bytes, 16);
 }
 
+static int same(idz_reader one, idz_reader other) { return memcmp(&one, &other, sizeof one) == 0; }
+
 static void fixed(void) {
     idz_opening opening = idz_open(IDZ_I32, IDZ_RUN_LENGTH, 0, 4, sample_a, sizeof sample_a);
     expect(opening.number == IDZ_DONE && opening.reader.rows == 4 && opening.reader.runs == 2, "sample A opens");
@@ -39,6 +41,7 @@ static void fixed(void) {
     expect(skipped.number == IDZ_DONE, "skip 2");
     idz_left left = idz_remaining(skipped.reader);
     expect(left.number == IDZ_DONE && left.rows == 2, "2 rows remain");
+    expect(same(left.reader, skipped.reader), "and the reader comes back");
     idz_given given = batch(skipped.reader, sample_a, sizeof sample_a, 1);
     expect(given.number == IDZ_DONE && given.rows == 1 && values[0] == 7 && flags[0] == 1, "batch 1 gives 7");
     given = batch(given.reader, sample_a, sizeof sample_a, 4);
@@ -59,7 +62,7 @@ static void variable(void) {
     expect(memcmp(bytes, "ababc", 5) == 0 && memcmp(flags, "\1\0\1\1", 4) == 0, "their bytes and flags");
     expect(ends[0] == 2 && ends[1] == 2 && ends[2] == 4 && ends[3] == 5, "their ends");
     given = idz_batch(opening.reader, sample_b, sizeof sample_b, 4, values, 0, flags, 4, ends, 4, bytes, 4);
-    expect(given.number == IDZ_ROOM && memcmp(&given.reader, &opening.reader, sizeof given.reader) == 0, "4 bytes of room is 4");
+    expect(given.number == IDZ_ROOM && same(given.reader, opening.reader), "4 bytes of room is 4");
 }
 
 static void refused(void) {
@@ -68,7 +71,11 @@ static void refused(void) {
     unknown[36] = 3;
     idz_opening opening = idz_open(IDZ_BLOB, IDZ_DICTIONARY, 0, 4, unknown, sizeof unknown);
     expect(opening.number == IDZ_KEY, "an unknown key is 15");
-    expect(idz_remaining(opening.reader).number == IDZ_DISAGREE, "and its record is refused as 9");
+    idz_left left = idz_remaining(opening.reader);
+    expect(left.number == IDZ_DISAGREE && left.rows == 0 && same(left.reader, opening.reader), "and its record is refused as 9");
+    expect(idz_skip(opening.reader, unknown, sizeof unknown, 0).number == IDZ_DISAGREE, "by a skip too");
+    expect(batch(opening.reader, unknown, sizeof unknown, 1).number == IDZ_DISAGREE, "and by a batch");
+    expect(batch(opening.reader, unknown, sizeof unknown, 0).number == IDZ_NO_ROWS, "but for one of 0 rows, which is 6");
     expect(idz_open(IDZ_CHAR, IDZ_PLAIN, 256, 0, unknown, 0).number == IDZ_COLUMN, "char of 256 is 1");
     expect(idz_open(IDZ_I32, IDZ_RUN_LENGTH, 0, 5, sample_a, sizeof sample_a).number == IDZ_SUM, "another sum is 16");
 }

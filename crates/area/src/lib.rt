@@ -1,8 +1,10 @@
 // Small steps on bytes and lent areas that every crate above uses, each with a contract of its own.
 ghost use mathlib.Core.Path.{_≡_};
+ghost use mathlib.Core.Bool.{true};
 ghost use Prim.Native.Nat.{_+_, _*_, _<_, _≤_, _^_, min};
 ghost use lib.ListN.{length, take, drop, replicate};
 ghost use lib.Seq.{sets};
+ghost use Rattle.limits.specs.Limits.{isWidth};
 ghost use Rattle.area.specs.Area.{repeats, climbs};
 
 // A byte as a wider number. Its bound comes with it, so that no caller proves the cast again.
@@ -87,14 +89,14 @@ pub fn climb(dst: &mut [u32], at: usize, n: usize, start: u32, step: u32)
 }
 
 // The first byte of an item at `at`; its first two; its first four; all eight.
-pub fn put1(item: [u8; 8], dst: &mut [u8], at: usize)
+fn put1(item: [u8; 8], dst: &mut [u8], at: usize)
     requires { ⌜ at + 1 ≤ length (now dst) ⌝ }
     ensures { λ _. ⌜ now (dst .exit) ≡ sets (now (dst .entry)) at (take 1 item) ⌝ }
 {
     dst[at] = item[0];
 }
 
-pub fn put2(item: [u8; 8], dst: &mut [u8], at: usize)
+fn put2(item: [u8; 8], dst: &mut [u8], at: usize)
     requires { ⌜ at + 2 ≤ length (now dst) ⌝ }
     ensures { λ _. ⌜ now (dst .exit) ≡ sets (now (dst .entry)) at (take 2 item) ⌝ }
 {
@@ -102,7 +104,7 @@ pub fn put2(item: [u8; 8], dst: &mut [u8], at: usize)
     dst[at + 1] = item[1];
 }
 
-pub fn put4(item: [u8; 8], dst: &mut [u8], at: usize)
+fn put4(item: [u8; 8], dst: &mut [u8], at: usize)
     requires { ⌜ at + 4 ≤ length (now dst) ⌝ }
     ensures { λ _. ⌜ now (dst .exit) ≡ sets (now (dst .entry)) at (take 4 item) ⌝ }
 {
@@ -112,7 +114,7 @@ pub fn put4(item: [u8; 8], dst: &mut [u8], at: usize)
     dst[at + 3] = item[3];
 }
 
-pub fn put8(item: [u8; 8], dst: &mut [u8], at: usize)
+fn put8(item: [u8; 8], dst: &mut [u8], at: usize)
     requires { ⌜ at + 8 ≤ length (now dst) ⌝ }
     ensures { λ _. ⌜ now (dst .exit) ≡ sets (now (dst .entry)) at (take 8 item) ⌝ }
 {
@@ -124,4 +126,24 @@ pub fn put8(item: [u8; 8], dst: &mut [u8], at: usize)
     dst[at + 5] = item[5];
     dst[at + 6] = item[6];
     dst[at + 7] = item[7];
+}
+
+// An encoded item at `at`, passed whole beside its width: as many of its eight bytes as it has.
+pub fn put(item: [u8; 8], width: usize, dst: &mut [u8], at: usize)
+    requires { ⌜ (isWidth width ≡ true) × (at + width ≤ length (now dst)) ⌝ }
+    ensures { λ _. ⌜ now (dst .exit) ≡ sets (now (dst .entry)) at (take width item) ⌝ }
+{
+    if width == 8 {
+        put8(item, dst, at);
+        return;
+    }
+    if width == 4 {
+        put4(item, dst, at);
+        return;
+    }
+    if width == 2 {
+        put2(item, dst, at);
+        return;
+    }
+    put1(item, dst, at);
 }

@@ -29,16 +29,16 @@ use Rattle.block.proofs.NextRows.{respot, Served, served}
 
 -- ---- the rows that remain
 module _ (r : Reader) {x : Column} (named : x ≡ columnOf (r .kind) (r .encoding) (r .width)) where
-  pub remaining-unknown : x ≡ Unknown → left DISAGREE 0 ≡ remaining r
+  pub remaining-unknown : x ≡ Unknown → left DISAGREE 0 r ≡ remaining r
   unfolding remaining remainingIn
   remaining-unknown q = rw (← named, q)
 
   module _ {k : Kind} {e : Encoding} (q : x ≡ Of k e) {t : Bool} (tested : t ≡ wrong k e r) where
-    pub remaining-wrong : t ≡ true → left DISAGREE 0 ≡ remaining r
+    pub remaining-wrong : t ≡ true → left DISAGREE 0 r ≡ remaining r
     unfolding remaining remainingIn
     remaining-wrong h = rw (← named, q, ← tested, h)
 
-    pub remaining-rows : t ≡ false → left 0 (r .rows - r .place) ≡ remaining r
+    pub remaining-rows : t ≡ false → left 0 (r .rows - r .place) r ≡ remaining r
     unfolding remaining remainingIn
     remaining-rows h = rw (← named, q, ← tested, h)
 

@@ -94,13 +94,13 @@ moved r n t = record {
   spot = t;
 }
 
--- ---- remaining: from the record alone
-abbrev pub left : ℕ → ℕ → Left
-left e n = record { number = e; rows = n }
+-- ---- remaining: from the record alone, which goes back as it was given
+abbrev pub left : ℕ → ℕ → Reader → Left
+left e n r = record { number = e; rows = n; reader = r }
 
 unfoldable pub remainingIn : Column → Reader → Left
-remainingIn Unknown r = left DISAGREE 0
-remainingIn (Of k e) r = cond (wrong k e r) (left DISAGREE 0) (left 0 (r .rows - r .place))
+remainingIn Unknown r = left DISAGREE 0 r
+remainingIn (Of k e) r = cond (wrong k e r) (left DISAGREE 0 r) (left 0 (r .rows - r .place) r)
 
 unfoldable pub remaining : Reader → Left
 remaining r = remainingIn (columnOf (r .kind) (r .encoding) (r .width)) r

@@ -50,11 +50,12 @@ pub struct Given {
     pub reader: Reader,
 }
 
-// What asking for the remaining rows answers.
+// What asking for the remaining rows answers: the reader comes back as it was.
 #[repr(C)]
 pub struct Left {
     pub number: u8,
     pub rows: usize,
+    pub reader: Reader,
 }
 
 // Opens a block, and answers a number and a record.

@@ -188,17 +188,20 @@ impl Reader {
             return Left {
                 number: refusal::DISAGREE,
                 rows: 0,
+                reader: self,
             };
         };
         if self.wrong(kind, encoding) {
             return Left {
                 number: refusal::DISAGREE,
                 rows: 0,
+                reader: self,
             };
         }
         Left {
             number: 0,
             rows: self.rows - self.place,
+            reader: self,
         }
     }
 

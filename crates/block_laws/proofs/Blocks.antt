@@ -8,6 +8,7 @@ use lib.ListN.{length, length-map}
 use Rattle.encode.specs.declared.Kind.{Kind}
 use Rattle.encode.specs.declared.Kind.the-variants.{Fixed, Char, Blob}
 use Rattle.limits.specs.Limits.{MOST_ITEMS}
+use Rattle.plain.specs.Each.{Each}
 use Rattle.plain.specs.Rows.{Row, null}
 use Rattle.plain.specs.Plain.{joined, endsFrom, plainOf, plainNumber, plainRow}
 use Rattle.nullable.specs.Nullable.{bitmapLength, nullableOf, nullableNumber, nullableRow}
@@ -20,14 +21,15 @@ use Rattle.format.specs.declared.Column.the-variants.{Of}
 use Rattle.format.specs.Blocks.{columnOf, blockOf, cut, storedRow, storedForm}
 use Rattle.format.specs.Opening.{rulesOf, mostRows, columnNumber, openNumber, headOf, rowAt, countsIn, placesOf, rowsOf}
 use Rattle.format.specs.Sizes.{runRows, storedItems, storedEntries, accepted}
+use Rattle.format.proofs.Within.{Limits}
 use Rattle.format.proofs.Sound.{column-rules}
-use Rattle.block_laws.proofs.Lists.{Each, over-list}
+use Rattle.block_laws.proofs.Lists.{over-list}
 use Rattle.block_laws.proofs.Plains.{Fits, kept, plain-opens, plain-row}
 use Rattle.block_laws.proofs.Nullables.{nullable-opens, nullable-row}
 use Rattle.block_laws.proofs.Runs.{each-run}
 use Rattle.block_laws.proofs.RunLengths.{inner-small, run-length-opens, run-length-rows}
 use Rattle.block_laws.proofs.Dictionaries.{dictionary-opens, dictionary-rows}
-use Rattle.block_laws.proofs.Accepted.{Limits, accepted-fits, accepted-limits}
+use Rattle.block_laws.proofs.Accepted.{accepted-fits, accepted-limits}
 
 -- ---- inner blocks of no items
 no-items : (k : Kind) → length (plainOf k []) ≡ 0

@@ -8,9 +8,11 @@ use lib.ListN.{length, getD, length-append, length-map}
 use borrow.Author.Tests.{le-ltb}
 use Rattle.encode.specs.declared.Kind.{Kind}
 use Rattle.limits.specs.Limits.{MOST_ENTRIES, MOST_ITEMS}
+use Rattle.plain.specs.Each.{Each}
 use Rattle.plain.specs.Rows.{Row, null, int, bytes, intIn}
 use Rattle.plain.specs.Rules.{firstOf}
 use Rattle.plain.specs.Plain.{joined, plainOf, plainNumber, plainRow}
+use Rattle.plain.proofs.Each.{each-more}
 use Rattle.nullable.specs.Nullable.{presence}
 use Rattle.rle.specs.RunLength.{runsOf, runLengthOf, runsIn, countsLength, countsPart, innerPart, runLengthNumber, runNumbers}
 use Rattle.dict.specs.Dictionary.{i32, indexOf, entriesOf, keyOf, keyBlockOf, dictionaryOf, keyLength, entriesIn, keyPart, entriesPart}
@@ -19,7 +21,7 @@ use Rattle.dict.proofs.Parts.{key-length-of-block, entries-of-block, key-part-o
 use Rattle.dict.proofs.Slots.{known-all}
 use Rattle.format.specs.Blocks.{cut, filled}
 use Rattle.format.specs.Sizes.{runRows, keysOf}
-use Rattle.block_laws.proofs.Lists.{Each, each-at, each-more, each-map, map-each}
+use Rattle.block_laws.proofs.Lists.{each-at, each-map, map-each}
 use Rattle.block_laws.proofs.Plains.{Fits, kept, plain-opens, plain-row}
 use Rattle.block_laws.proofs.Nullables.{present-kept}
 use Rattle.block_laws.proofs.Runs.{each-run}

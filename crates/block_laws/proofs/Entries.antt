@@ -12,11 +12,12 @@ use borrow.Author.Tests.{ltb-true, lt-ltb}
 use Rattle.encode.specs.Kinds.{takes}
 use Rattle.encode.specs.declared.Primitive.the-variants.{I32}
 use Rattle.limits.specs.Limits.{MOST_ENTRIES}
+use Rattle.plain.specs.Each.{Each}
 use Rattle.plain.specs.Rows.{Row, null, int, bytes, intIn, fits, same}
+use Rattle.plain.proofs.Each.{each-append}
 use Rattle.plain.proofs.Same.{same-equal, same-self}
 use Rattle.dict.specs.Dictionary.{i32, indexOf, withEntry, entriesAfter, entriesOf, nullKey, entryKey, keyOf}
 use Rattle.dict.proofs.Slots.{null-slot, entry-slot}
-use Rattle.block_laws.proofs.Lists.{Each, each-append}
 use Rattle.block_laws.proofs.Plains.{Fits}
 
 -- ---- the place of a row among the entries

@@ -4,29 +4,18 @@ use native.Mathlib.Nat.{zero-add, zero-mul, suc-mul}
 use native.Mathlib.Omega.{arith}
 use mathlib.Core.List.{List, [], _∷_, _++_, map, append-assoc}
 use mathlib.Core.Path.{_≡_, refl, sym, ap, _∙_}
-use lib.ListN.{length, take, drop, getD, length-append, length-map, List·getD-map}
+use lib.ListN.{length, take, drop, getD, length-map, List·getD-map}
 use lib.Seq.{take-at, drop-append-add, ext-getD}
+use Rattle.plain.specs.Each.{Each}
 use Rattle.plain.specs.Plain.{joined, places}
+use Rattle.plain.proofs.Each.{Wide}
 use Rattle.plain.proofs.Places.{length-over, getD-over}
 
 -- ---- a fact of each element
-abbrev pub Each : {A : Type 0} → (A → Type 0) → List A → Type 0
-Each P [] = Unit
-Each P (x ∷ xs) = P x × Each P xs
-
-module _ {A : Type 0} (P : A → Type 0) where
-  pub each-at : (xs : List A) (d : A) → Each P xs → (i : ℕ) → i < length xs → P (getD xs i d)
-  each-at [] d h i l = absurd (omega arith)
-  each-at (x ∷ xs) d h zero l = h .0
-  each-at (x ∷ xs) d h (suc i) l = each-at xs d (h .1) i (omega arith)
-
-  pub each-more : (Q : A → Type 0) (xs : List A) → ((x : A) → P x → Q x) → Each P xs → Each Q xs
-  each-more Q [] f h = tt
-  each-more Q (x ∷ xs) f h = (f x (h .0), each-more Q xs f (h .1))
-
-  pub each-append : (xs ys : List A) → Each P xs → Each P ys → Each P (xs ++ ys)
-  each-append [] ys h k = k
-  each-append (x ∷ xs) ys h k = (h .0, each-append xs ys (h .1) k)
+pub each-at : {A : Type 0} (P : A → Type 0) (xs : List A) (d : A) → Each P xs → (i : ℕ) → i < length xs → P (getD xs i d)
+each-at P [] d h i l = absurd (omega arith)
+each-at P (x ∷ xs) d h zero l = h .0
+each-at P (x ∷ xs) d h (suc i) l = each-at P xs d (h .1) i (omega arith)
 
 pub each-map : {A B : Type 0} (P : B → Type 0) (g : A → B) (xs : List A) → Each (λ x. P (g x)) xs → Each P (map g xs)
 each-map P g [] h = tt
@@ -48,19 +37,9 @@ over-list f g xs d h =
 
 -- ---- items of w bytes each, one after another
 module _ {A : Type 0} (f : A → List ℕ) (w : ℕ) where
-  abbrev pub Wide : A → Type 0
-  Wide x = length (f x) ≡ w
-
-  pub length-joined : (xs : List A) → Each Wide xs → length (joined f xs) ≡ length xs * w
-  unfolding joined
-  length-joined [] h = sym (zero-mul w)
-  length-joined (x ∷ xs) h =
-      let e : suc (length xs) * w ≡ length xs * w + w = suc-mul (length xs) w in
-      rw (length-append (f x) (joined f xs), e) (omega (arith, h .0, length-joined xs (h .1)))
-
   -- item i, whatever stands behind them
   pub item-joined :
-      (xs : List A) (d : A) (rest : List ℕ) → Each Wide xs → (i : ℕ) → i < length xs
+      (xs : List A) (d : A) (rest : List ℕ) → Each (Wide f w) xs → (i : ℕ) → i < length xs
       → take w (drop (i * w) (joined f xs ++ rest)) ≡ f (getD xs i d)
   unfolding joined
   item-joined [] d rest h i l = absurd (omega arith)

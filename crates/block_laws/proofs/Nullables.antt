@@ -9,12 +9,13 @@ use lib.ListN.{length, getD, List·getD-map}
 use Rattle.encode.specs.declared.Kind.{Kind}
 use Rattle.encode.specs.declared.Kind.the-variants.{Fixed, Char, Blob}
 use Rattle.limits.specs.Limits.{MOST_ITEMS}
+use Rattle.plain.specs.Each.{Each}
 use Rattle.plain.specs.Rows.{Row, null, int, bytes, intIn, bytesIn, fits}
 use Rattle.plain.specs.Plain.{plainOf}
 use Rattle.nullable.specs.Nullable.{presence, nullableOf, nullableNumber, nullableRow}
 use Rattle.nullable.proofs.Parts.{length-block, block-number, block-row}
 use Rattle.format.specs.Blocks.{cut, filled}
-use Rattle.block_laws.proofs.Lists.{Each, each-at}
+use Rattle.block_laws.proofs.Lists.{each-at}
 use Rattle.block_laws.proofs.Plains.{Fits, kept, plain-opens, plain-row}
 
 -- a row that is there and fits needs no default

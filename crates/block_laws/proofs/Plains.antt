@@ -6,24 +6,26 @@ use mathlib.Core.Bool.{true, cond}
 use mathlib.Core.List.{List, [], _∷_, _++_, map, append-nil}
 use mathlib.Core.Path.{_≡_, refl, sym, ap, _∙_}
 use lib.Dec.{eqb}
-use lib.ListN.{length, take, drop, getD, replicate, length-append, length-map, length-replicate, List·getD-map}
+use lib.ListN.{length, take, drop, getD, replicate, length-append, length-map, List·getD-map}
 use lib.Seq.{take-at, drop-append-add, ext-getD}
-use borrow.Author.Tests.{leb-true, le-leb}
+use borrow.Author.Tests.{le-leb}
 use Rattle.encode.specs.Bytes.{little, low-first}
 use Rattle.encode.specs.Kinds.{widthOf, decoded, encoded}
 use Rattle.encode.specs.declared.Primitive.{Primitive}
 use Rattle.encode.specs.declared.Primitive.the-variants.{Bool as Boolean, I16, I32, I64, Date, Timestamp, TimestampTz, Interval}
 use Rattle.encode.specs.declared.Kind.{Kind}
 use Rattle.encode.specs.declared.Kind.the-variants.{Fixed, Char, Blob}
-use Rattle.encode.proofs.RoundTrip.{number-bytes, round-trip, item-length}
+use Rattle.encode.proofs.RoundTrip.{number-bytes, round-trip}
+use Rattle.plain.specs.Each.{Each}
 use Rattle.plain.specs.Rows.{Row, null, int, bytes, intIn, bytesIn, fits}
 use Rattle.plain.specs.Plain.{joined, places, itemOf, endsFrom, plainOf, endAt, startAt, endsOf, rising, lastOf, plainNumber, beforeNul}
 use Rattle.plain.specs.Plain.{fixedAt, charAt, blobAt, plainRow}
+use Rattle.plain.proofs.Each.{Wide, all-each, length-joined, fixed-wide, char-wide}
 use Rattle.plain.proofs.Ends.{length-ends, last-same}
 use Rattle.plain.proofs.Numbers.{fixed-number, char-number, length-same}
 use Rattle.plain.proofs.Places.{length-over, getD-over}
 use Rattle.format.specs.Blocks.{cut, filled}
-use Rattle.block_laws.proofs.Lists.{Each, each-at, each-more, length-joined, item-joined}
+use Rattle.block_laws.proofs.Lists.{each-at, item-joined}
 
 -- ---- rows that fit a kind
 abbrev pub Fits : Kind → Row → Type 0
@@ -52,18 +54,6 @@ fixed-trip p (int v) h = round-trip p v h
 fixed-trip p (bytes bs) h = let z : _≡_ {A = ℕ} 0 1 = cc in absurd (omega arith)
 
 -- ---- chars
-char-short : (w : ℕ) (r : Row) → Fits (Char w) r → length (bytesIn r) ≤ w
-unfolding fits bytesIn
-char-short w null h = omega arith
-char-short w (int v) h = let z : _≡_ {A = ℕ} 0 1 = cc in absurd (omega arith)
-char-short w (bytes bs) h = leb-true (length bs) w h
-
-char-wide : (w : ℕ) (r : Row) → Fits (Char w) r → length (itemOf (Char w) r) ≡ w
-unfolding itemOf
-char-wide w r h =
-    let l : length (bytesIn r) ≤ w = char-short w r h in
-    rw (length-append (bytesIn r) (replicate (w - length (bytesIn r)) 0), length-replicate {A = ℕ} (w - length (bytesIn r)) 0) (omega arith)
-
 only-nuls : (m : ℕ) → beforeNul (replicate m 0) ≡ []
 unfolding beforeNul
 only-nuls zero = refl
@@ -125,9 +115,8 @@ ends-last at (x ∷ xs) = rw (length-append x (data′ xs)) (omega (arith, ends-
 abbrev blobBlock : List (List ℕ) → List ℕ
 blobBlock xs = joined (little 4) (endsFrom 0 xs) ++ data′ xs
 
-ends-wide : (es : List ℕ) → Each (λ e. length (little 4 e) ≡ 4) es
-ends-wide [] = tt
-ends-wide (e ∷ es) = (refl, ends-wide es)
+ends-wide : (es : List ℕ) → Each (Wide (little 4) 4) es
+ends-wide es = all-each (Wide (little 4) 4) (λ e. refl) es
 
 module _ (xs : List (List ℕ)) (small : length (data′ xs) < 2 ^ 32) where
   abbrev block : List ℕ
@@ -178,14 +167,6 @@ module _ (xs : List (List ℕ)) (small : length (data′ xs) < 2 ^ 32) where
       (data-item xs i h)
 
 -- ---- every kind
-fixed-all : (p : Primitive) (rows : List Row) → Each (λ r. length (itemOf (Fixed p) r) ≡ widthOf p) rows
-unfolding itemOf
-fixed-all p [] = tt
-fixed-all p (r ∷ rows) = (item-length p (intIn r), fixed-all p rows)
-
-char-all : (w : ℕ) (rows : List Row) → Each (Fits (Char w)) rows → Each (λ r. length (itemOf (Char w) r) ≡ w) rows
-char-all w rows h = each-more (Fits (Char w)) (λ r. length (itemOf (Char w) r) ≡ w) rows (char-wide w) h
-
 blob-data : (rows : List Row) → joined (itemOf Blob) rows ≡ data′ (map (itemOf Blob) rows)
 unfolding joined
 blob-data [] = refl
@@ -207,11 +188,11 @@ plain-opens (Fixed p) rows f s =
     unfold plainOf in
     sym (length-same (Fixed p) refl (widthOf p) (length rows) (joined (itemOf (Fixed p)) rows)
     (fixed-number p (widthOf p) (length rows) (joined (itemOf (Fixed p)) rows) refl)
-    (length-joined (itemOf (Fixed p)) (widthOf p) rows (fixed-all p rows)))
+    (length-joined (itemOf (Fixed p)) (widthOf p) rows (fixed-wide p rows)))
 plain-opens (Char w) rows f s =
     unfold plainOf in
     sym (length-same (Char w) refl w (length rows) (joined (itemOf (Char w)) rows) (char-number w (length rows) (joined (itemOf (Char w)) rows))
-    (length-joined (itemOf (Char w)) w rows (char-all w rows f)))
+    (length-joined (itemOf (Char w)) w rows (char-wide w rows f)))
 plain-opens Blob rows f s =
     rw (blob-block rows, ← length-map rows (itemOf Blob)) (blobs-open (map (itemOf Blob) rows) (blob-small rows s))
 
@@ -220,7 +201,7 @@ fixed-item :
     → fixedAt p (plainOf (Fixed p) rows) i ≡ intIn (getD rows i null)
 unfolding fixedAt plainOf itemOf
 fixed-item p rows f i h =
-    let e = item-joined (itemOf (Fixed p)) (widthOf p) rows null [] (fixed-all p rows) i h in
+    let e = item-joined (itemOf (Fixed p)) (widthOf p) rows null [] (fixed-wide p rows) i h in
     ap (decoded p) (rw (append-nil (joined (itemOf (Fixed p)) rows)) at e)
     ∙ fixed-trip p (getD rows i null) (each-at (Fits (Fixed p)) rows null f i h)
 
@@ -230,7 +211,7 @@ char-item :
 unfolding charAt plainOf itemOf
 char-item w rows f i h =
     let r : Row = getD rows i null in
-    let e = item-joined (itemOf (Char w)) w rows null [] (char-all w rows f) i h in
+    let e = item-joined (itemOf (Char w)) w rows null [] (char-wide w rows f) i h in
     ap beforeNul (rw (append-nil (joined (itemOf (Char w)) rows)) at e)
     ∙ before-padding (bytesIn r) (w - length (bytesIn r))
 

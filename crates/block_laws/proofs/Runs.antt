@@ -16,6 +16,7 @@ use Rattle.varint.specs.declared.Count.the-variants.{Number}
 use Rattle.varint.specs.Varint.{countOf, countAt, spelling}
 use Rattle.varint.proofs.Within.{at-within}
 use Rattle.varint.proofs.RoundTrip.{round-trip}
+use Rattle.plain.specs.Each.{Each}
 use Rattle.plain.specs.Rows.{Row, null, same}
 use Rattle.plain.specs.Plain.{joined}
 use Rattle.plain.proofs.Same.{same-equal}
@@ -24,7 +25,6 @@ use Rattle.rle.specs.RunLength.{Run, run, runsFrom, runsOf, countsOf, plus, wal
 use Rattle.rle.proofs.Walking.{good-run}
 use Rattle.rle.proofs.Folds.{map-rows}
 use Rattle.format.specs.Sizes.{runRows}
-use Rattle.block_laws.proofs.Lists.{Each}
 
 -- ---- the rows of some runs
 unfoldable pub spread : List Run → List Row

@@ -13,7 +13,7 @@ use Rattle.format.specs.declared.Encoding.the-variants.{Plain}
 use Rattle.format.specs.declared.Column.the-variants.{Of}
 use Rattle.format.specs.Blocks.{columnOf, blockOf, storedForm}
 use Rattle.format.specs.Opening.{openNumber, rowsOf}
-use Rattle.format.specs.Sizes.{storedItems, storedEntries, withinLimits, acceptedAfter, accepted}
+use Rattle.format.specs.Sizes.{storedItems, storedEntries, withinLimits, allFit, accepted}
 use Rattle.block_laws.proofs.Blocks.{our-blocks-open, our-blocks-hold}
 use Rattle.block_laws.proofs.Counts.{one-row-count}
 
@@ -22,7 +22,7 @@ pub width-0-tells-nothing :
     (accepted (Char 0) Plain (bytes [] ∷ []) ≡ true)
     × (accepted (Char 0) Plain [] ≡ true)
     × (blockOf (Char 0) Plain (bytes [] ∷ []) ≡ blockOf (Char 0) Plain [])
-unfolding accepted acceptedAfter withinLimits storedItems storedEntries fits blockOf plainOf joined itemOf bytesIn
+unfolding accepted allFit withinLimits storedItems storedEntries fits blockOf plainOf joined itemOf bytesIn
 width-0-tells-nothing = (refl, refl, refl)
 
 -- So the pair is named by its numbers.

@@ -62,7 +62,7 @@ fn view(s: &[u8], state: State) -> State {
     next
 }
 
-// The state after a command with another record, and the place after it.
+// The state after a command with the record that it handed back, and the place after it.
 fn after(state: State, at: usize, builder: Builder) -> State {
     let mut next = state;
     next.at = at;
@@ -111,7 +111,7 @@ fn estimate(state: State) -> State {
     say(b"estimate");
     show_byte(answer.number);
     show_size(answer.size);
-    state
+    after(state, state.at, answer.builder)
 }
 
 fn should_finish(s: &[u8], state: State) -> State {
@@ -122,9 +122,7 @@ fn should_finish(s: &[u8], state: State) -> State {
     say(b"should");
     show_byte(answer.number);
     show_bool(answer.full);
-    let mut next = state;
-    next.at = len.next;
-    next
+    after(state, len.next, answer.builder)
 }
 
 fn show_all(state: State) -> State {

@@ -78,27 +78,28 @@ module _ (r : Builder) (a : Lent) (present : Bool) (v : ℤ) (bs : List ℕ) {c 
 
 -- ---- estimate and should_finish
 module _ (r : Builder) {c : Column} (p : c ≡ columnOf (r .kind) (r .encoding) (r .width)) where
-  pub estimate-unknown : c ≡ Unknown → estimatedAs DISAGREE 0 ≡ estimated r
+  pub estimate-unknown : c ≡ Unknown → estimatedAs DISAGREE 0 r ≡ estimated r
   unfolding estimated estimatedIn
   estimate-unknown q = rw (← p, q)
 
-  pub asked-unknown : (present : Bool) (len : ℕ) → c ≡ Unknown → askedAs DISAGREE false ≡ asked r present len
+  pub asked-unknown : (present : Bool) (len : ℕ) → c ≡ Unknown → askedAs DISAGREE false r ≡ asked r present len
   unfolding asked askedIn
   asked-unknown present len q = rw (← p, q)
 
   module _ {k : Kind} {e : Encoding} (q : c ≡ Of k e) {x : Bool} (o : x ≡ recordWrong k e (r .counted)) where
-    pub estimate-wrong : x ≡ true → estimatedAs DISAGREE 0 ≡ estimated r
+    pub estimate-wrong : x ≡ true → estimatedAs DISAGREE 0 r ≡ estimated r
     unfolding estimated estimatedIn
     estimate-wrong t = rw (← p, q, ← o, t)
 
-    pub estimate-right : x ≡ false → {n : ℕ} → n ≡ sizeBy k e (r .counted) → estimatedAs 0 n ≡ estimated r
+    pub estimate-right : x ≡ false → {n : ℕ} → n ≡ sizeBy k e (r .counted) → estimatedAs 0 n r ≡ estimated r
     unfolding estimated estimatedIn
     estimate-right t h = rw (← p, q, ← o, t, h)
 
-    pub asked-wrong : (present : Bool) (len : ℕ) → x ≡ true → askedAs DISAGREE false ≡ asked r present len
+    pub asked-wrong : (present : Bool) (len : ℕ) → x ≡ true → askedAs DISAGREE false r ≡ asked r present len
     unfolding asked askedIn
     asked-wrong present len t = rw (← p, q, ← o, t)
 
-    pub asked-right : (present : Bool) (len : ℕ) → x ≡ false → {t : Bool} → t ≡ fullBy k e (r .counted) (r .target) present len → askedAs 0 t ≡ asked r present len
+    pub asked-right :
+        (present : Bool) (len : ℕ) → x ≡ false → {t : Bool} → t ≡ fullBy k e (r .counted) (r .target) present len → askedAs 0 t r ≡ asked r present len
     unfolding asked askedIn
     asked-right present len u h = rw (← p, q, ← o, u, h)

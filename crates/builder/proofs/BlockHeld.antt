@@ -70,12 +70,12 @@ ready-apart h = record { few = h .few; entries = h .entries; runs = h .runs; ite
 
 -- ---- the answer
 module _ (r : Builder) (a : Lent) (out : List ℕ) {c : Column} (q : c ≡ columnOf (r .kind) (r .encoding) (r .width)) where
-  pub column-none : c ≡ Unknown → finished r a out ≡ finishOf DISAGREE 0 out
+  pub column-none : c ≡ Unknown → finished r a out ≡ finishOf DISAGREE 0 r out
   unfolding finished finishedIn
   column-none t = rw (← q, t)
 
   module _ {k : Kind} {e : Encoding} (t : c ≡ Of k e) where
-    pub not-agreed : disagree k e (r .counted) (roomOf a) ≡ true → finished r a out ≡ finishOf DISAGREE 0 out
+    pub not-agreed : disagree k e (r .counted) (roomOf a) ≡ true → finished r a out ≡ finishOf DISAGREE 0 r out
     unfolding finished finishedIn
     not-agreed h = rw (← q, t, h)
 
@@ -83,21 +83,24 @@ module _ (r : Builder) (a : Lent) (out : List ℕ) {c : Column} (q : c ≡ colum
       abbrev block : List ℕ
       block = heldBlock k e (r .counted) a
 
-      whole : finished r a out ≡ finishedWith block out
+      whole : finished r a out ≡ finishedWith r block out
       unfolding finished finishedIn
       whole = rw (← q, t, h)
 
-      pub room-short : length out < n → finished r a out ≡ finishOf ROOM 0 out
-      unfolding finishedWith
-      room-short d = whole ∙ ap (λ (b : Bool). cond b (finishOf ROOM 0 out) (finishOf 0 (length block) (over out 0 block))) (sym (ap (ltb (length out)) l) ∙ lt-ltb (length out) n d)
+      abbrev by-room : Bool → Finish
+      by-room b = cond b (finishOf ROOM 0 r out) (finishOf 0 (length block) r (over out 0 block))
 
-      pub done : n ≤ length out → finished r a out ≡ finishOf 0 n (sets out 0 block)
+      pub room-short : length out < n → finished r a out ≡ finishOf ROOM 0 r out
+      unfolding finishedWith
+      room-short d = whole ∙ ap by-room (sym (ap (ltb (length out)) l) ∙ lt-ltb (length out) n d)
+
+      pub done : n ≤ length out → finished r a out ≡ finishOf 0 n r (sets out 0 block)
       unfolding finishedWith
       done d =
           whole
-          ∙ ap (λ (b : Bool). cond b (finishOf ROOM 0 out) (finishOf 0 (length block) (over out 0 block))) (sym (ap (ltb (length out)) l) ∙ le-ltb (length out) n d)
-          ∙ ap (λ (m : ℕ). finishOf 0 m (over out 0 block)) (sym l)
-          ∙ ap (finishOf 0 n) (sym (over-sets block out 0 (omega (arith, l, d))))
+          ∙ ap by-room (sym (ap (ltb (length out)) l) ∙ le-ltb (length out) n d)
+          ∙ ap (λ (m : ℕ). finishOf 0 m r (over out 0 block)) (sym l)
+          ∙ ap (finishOf 0 n r) (sym (over-sets block out 0 (omega (arith, l, d))))
 
 -- what the promise says, from the whole answer
 pub given : (x : Finish) {y : Finish} → x ≡ y → {n : Finished} {o : List ℕ} → n ≡ y .answer → o ≡ y .out → (n ≡ x .answer) × (o ≡ x .out)

@@ -1,5 +1,5 @@
 -- 01, "Building" and "Sizes": finish, the estimated size and should_finish as functions of the record and what the lent areas hold, for every record
--- and all memory. Assumes nothing.
+-- and all memory. Each hands the record back as it was given, whether it refuses or not. Assumes nothing.
 use Prim.Native.Nat.{ℕ}
 use mathlib.Core.Bool.{Bool, true, false, cond}
 use mathlib.Core.List.{List}
@@ -36,38 +36,42 @@ pub record Finish : Type 0 where
   pub answer : Finished
   pub out : List ℕ
 
-abbrev pub finishOf : ℕ → ℕ → List ℕ → Finish
-finishOf e len out = record { answer = record { number = e; len = len }; out = out }
+abbrev pub finishOf : ℕ → ℕ → Builder → List ℕ → Finish
+finishOf e len r out = record { answer = record { number = e; len = len; builder = r }; out = out }
 
-unfoldable pub finishedWith : List ℕ → List ℕ → Finish
-finishedWith block out = cond (ltb (length out) (length block)) (finishOf ROOM 0 out) (finishOf 0 (length block) (over out 0 block))
+unfoldable pub finishedWith : Builder → List ℕ → List ℕ → Finish
+finishedWith r block out = cond (ltb (length out) (length block)) (finishOf ROOM 0 r out) (finishOf 0 (length block) r (over out 0 block))
 
-unfoldable pub finishedIn : Column → Counted → Lent → List ℕ → Finish
-finishedIn Unknown r a out = finishOf DISAGREE 0 out
-finishedIn (Of k e) r a out = cond (disagree k e r (roomOf a)) (finishOf DISAGREE 0 out) (finishedWith (heldBlock k e r a) out)
+unfoldable pub finishedIn : Column → Builder → Lent → List ℕ → Finish
+finishedIn Unknown r a out = finishOf DISAGREE 0 r out
+finishedIn (Of k e) r a out =
+    cond (disagree k e (r .counted) (roomOf a)) (finishOf DISAGREE 0 r out)
+    (finishedWith r (heldBlock k e (r .counted) a) out)
 
 unfoldable pub finished : Builder → Lent → List ℕ → Finish
-finished r a out = finishedIn (columnOf (r .kind) (r .encoding) (r .width)) (r .counted) a out
+finished r a out = finishedIn (columnOf (r .kind) (r .encoding) (r .width)) r a out
 
 -- ---- the estimated size
-abbrev pub estimatedAs : ℕ → ℕ → Estimated
-estimatedAs e n = record { number = e; size = n }
+abbrev pub estimatedAs : ℕ → ℕ → Builder → Estimated
+estimatedAs e n r = record { number = e; size = n; builder = r }
 
-unfoldable pub estimatedIn : Column → Counted → Estimated
-estimatedIn Unknown r = estimatedAs DISAGREE 0
-estimatedIn (Of k e) r = cond (recordWrong k e r) (estimatedAs DISAGREE 0) (estimatedAs 0 (sizeBy k e r))
+unfoldable pub estimatedIn : Column → Builder → Estimated
+estimatedIn Unknown r = estimatedAs DISAGREE 0 r
+estimatedIn (Of k e) r = cond (recordWrong k e (r .counted)) (estimatedAs DISAGREE 0 r) (estimatedAs 0 (sizeBy k e (r .counted)) r)
 
 unfoldable pub estimated : Builder → Estimated
-estimated r = estimatedIn (columnOf (r .kind) (r .encoding) (r .width)) (r .counted)
+estimated r = estimatedIn (columnOf (r .kind) (r .encoding) (r .width)) r
 
 -- ---- should_finish, before a next row
-abbrev pub askedAs : ℕ → Bool → Asked
-askedAs e full = record { number = e; full = full }
+abbrev pub askedAs : ℕ → Bool → Builder → Asked
+askedAs e full r = record { number = e; full = full; builder = r }
 
-unfoldable pub askedIn : Column → Counted → ℕ → Bool → ℕ → Asked
-askedIn Unknown r target present len = askedAs DISAGREE false
-askedIn (Of k e) r target present len = cond (recordWrong k e r) (askedAs DISAGREE false) (askedAs 0 (fullBy k e r target present len))
+unfoldable pub askedIn : Column → Builder → Bool → ℕ → Asked
+askedIn Unknown r present len = askedAs DISAGREE false r
+askedIn (Of k e) r present len =
+    cond (recordWrong k e (r .counted)) (askedAs DISAGREE false r)
+    (askedAs 0 (fullBy k e (r .counted) (r .target) present len) r)
 
 -- of the next row whether it is present, and the length of its bytes
 unfoldable pub asked : Builder → Bool → ℕ → Asked
-asked r present len = askedIn (columnOf (r .kind) (r .encoding) (r .width)) (r .counted) (r .target) present len
+asked r present len = askedIn (columnOf (r .kind) (r .encoding) (r .width)) r present len

@@ -108,10 +108,15 @@ fn write_block(
     }
 }
 
-fn refused(number: u8) -> Finished
-    ensures { λ r. ⌜ r ≡ record { number = number; len = 0 } ⌝ }
+// A refused finish: no byte is written, and the builder goes back as it was given.
+fn refused(number: u8, builder: Builder) -> Finished
+    ensures { λ r. ⌜ r ≡ record { number = number; len = 0; builder = builder } ⌝ }
 {
-    Finished { number, len: 0 }
+    Finished {
+        number,
+        len: 0,
+        builder,
+    }
 }
 
 impl Builder {
@@ -134,7 +139,7 @@ impl Builder {
     {
         let column = format::column_of(self.kind, self.encoding, self.width);
         let Column::Of { kind, encoding } = column else {
-            return refused(limits::refusal::DISAGREE);
+            return refused(limits::refusal::DISAGREE, self);
         };
         let c = self.counted;
         let room = Room {
@@ -146,12 +151,12 @@ impl Builder {
             lens: lens.len(),
         };
         if needs::disagrees(c, kind, encoding, room) {
-            return refused(limits::refusal::DISAGREE);
+            return refused(limits::refusal::DISAGREE, self);
         }
         let size = held_counts(c, encoding, counts);
         let len = needs::block_bytes(with_counts(c, size), kind, encoding);
         if out.len() < len {
-            return refused(limits::refusal::ROOM);
+            return refused(limits::refusal::ROOM, self);
         }
         write_block(
             c,
@@ -165,6 +170,10 @@ impl Builder {
             keys,
             out,
         );
-        Finished { number: 0, len }
+        Finished {
+            number: 0,
+            len,
+            builder: self,
+        }
     }
 }

@@ -31,24 +31,27 @@ pub struct Appended {
     pub builder: Builder,
 }
 
-// What finishing answers: the bytes written.
+// What finishing answers: the bytes written, and the builder as it was.
 #[repr(C)]
 pub struct Finished {
     pub number: u8,
     pub len: usize,
+    pub builder: Builder,
 }
 
-// What asking for the estimated size answers; what asking whether to finish answers.
+// What asking for the estimated size answers, and what asking whether to finish answers: the builder comes back as it was.
 #[repr(C)]
 pub struct Estimated {
     pub number: u8,
     pub size: usize,
+    pub builder: Builder,
 }
 
 #[repr(C)]
 pub struct Asked {
     pub number: u8,
     pub full: bool,
+    pub builder: Builder,
 }
 
 impl Builder {

@@ -16,6 +16,7 @@ impl Builder {
             return Estimated {
                 number: limits::refusal::DISAGREE,
                 size: 0,
+                builder: self,
             };
         };
         let c = self.counted;
@@ -23,11 +24,13 @@ impl Builder {
             return Estimated {
                 number: limits::refusal::DISAGREE,
                 size: 0,
+                builder: self,
             };
         }
         Estimated {
             number: 0,
             size: sizes::size_of(c, kind, encoding),
+            builder: self,
         }
     }
 
@@ -40,6 +43,7 @@ impl Builder {
             return Asked {
                 number: limits::refusal::DISAGREE,
                 full: false,
+                builder: self,
             };
         };
         let c = self.counted;
@@ -47,11 +51,13 @@ impl Builder {
             return Asked {
                 number: limits::refusal::DISAGREE,
                 full: false,
+                builder: self,
             };
         }
         Asked {
             number: 0,
             full: sizes::is_full(c, self.target, kind, encoding, present, len),
+            builder: self,
         }
     }
 }

@@ -12,8 +12,10 @@ use Rattle.area.specs.Area.{over}
 use Rattle.area.proofs.Laws.{over-length}
 use Rattle.encode.specs.declared.Kind.{Kind}
 use Rattle.encode.specs.declared.Kind.the-variants.{Fixed, Char, Blob}
+use Rattle.plain.specs.Each.{Each}
 use Rattle.plain.specs.Rows.{Row, int, bytesIn, fits}
 use Rattle.plain.specs.Plain.{joined, places, itemOf, endsFrom}
+use Rattle.plain.proofs.Each.{each-append}
 use Rattle.nullable.specs.Nullable.{presence, bitAt}
 use Rattle.rle.specs.RunLength.{Run}
 use Rattle.dict.specs.Dictionary.{i32}
@@ -26,7 +28,7 @@ use Rattle.needs.specs.declared.Counted.{Counted}
 use Rattle.needs.specs.Needs.{coded, flagged, keyed, storedBy}
 use Rattle.append.specs.Appending.{Lent, laid}
 use Rattle.building_laws.specs.Built.{storedRows, storedRuns, endSlots, lenSlots, Enough}
-use Rattle.building_laws.proofs.Lists.{Each, each-append, length-joined-snoc, ends-snoc}
+use Rattle.building_laws.proofs.Lists.{length-joined-snoc, ends-snoc}
 use Rattle.building_laws.proofs.FieldsAndSlots.{counts-slots, keys-slots, item-slots, beside-slots}
 use Rattle.building_laws.proofs.Flags.{flag-slots}
 use Rattle.building_laws.proofs.OneRowMore.{joinsBy, itemBy, codedRow, keyBy, runs-next, rows-of-runs, items-next, key-next, key-next-fits}

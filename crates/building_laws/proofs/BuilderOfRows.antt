@@ -3,7 +3,7 @@ use Prim.Native.Nat.{ℕ}
 use mathlib.Core.Bool.{true, false, cond, not}
 use mathlib.Core.List.{List, [], _∷_, _++_}
 use mathlib.Core.Path.{_≡_, refl}
-use Rattle.limits.specs.Refusals.{ITEM, LIMIT}
+use Rattle.limits.specs.Refusals.{ITEM, LIMIT, ROOM}
 use Rattle.encode.specs.declared.Kind.{Kind}
 use Rattle.encode.specs.declared.Kind.the-variants.{Fixed, Char, Blob}
 use Rattle.plain.specs.Rows.{Row, fits}
@@ -16,17 +16,17 @@ use Rattle.format.specs.declared.Encoding.the-variants.{Plain, Nullable, RunLen
 use Rattle.format.specs.declared.Column.the-variants.{Of}
 use Rattle.format.specs.Blocks.{columnOf}
 use Rattle.format.specs.Sizes.{runRows, keysOf, storedEntries, withinLimits}
-use Rattle.format.proofs.Within.{none-within}
+use Rattle.format.proofs.Within.{none-within, within-told}
 use Rattle.builder.specs.declared.Builder.{Builder}
 use Rattle.encode.proofs.Bools.{or-none}
-use Rattle.needs.specs.Needs.{recordWrong, disagree}
+use Rattle.needs.specs.Needs.{recordWrong, tooShort, disagree}
 use Rattle.step.specs.Counting.{nextOf}
 use Rattle.append.specs.Appending.{Lent, roomOf, addedTo, addedWith, addedBy, added}
 use Rattle.builder.specs.Building.{noneCounted, empty, counting, appendWith, appendedIn, appended}
 use Rattle.building_laws.specs.Built.{Given, rowIn, storedRows, storedRuns, Enough}
 use Rattle.building_laws.proofs.Runs.{lastRun}
 use Rattle.building_laws.proofs.OneRowMore.{enough-before}
-use Rattle.building_laws.proofs.Records.{Recorded, nextBy, recorded-next, past-limits, within-told, record-right, room-enough}
+use Rattle.building_laws.proofs.Records.{Recorded, nextBy, recorded-next, past-limits, record-right, room-enough}
 use Rattle.building_laws.proofs.AreasOfRows.{EndsHeld, LensHeld, Holds, writtenBy, holds-next}
 use Rattle.building_laws.proofs.StepOfRow.{step-told}
 
@@ -38,7 +38,7 @@ pub record Stands (k : Kind) (e : Encoding) (target : ℕ) (xs : List Row) (r : 
   pub within : withinLimits k e xs ≡ true
 
 -- ---- at creation
-no-items : (e : Encoding) → storedRows e [] ≡ []
+pub no-items : (e : Encoding) → storedRows e [] ≡ []
 unfolding storedRows runRows runsOf entriesOf entriesAfter
 no-items Plain = refl
 no-items Nullable = refl
@@ -46,7 +46,7 @@ no-items RunLength = refl
 no-items RunLengthNullable = refl
 no-items Dictionary = refl
 
-no-runs : (e : Encoding) → storedRuns e [] ≡ []
+pub no-runs : (e : Encoding) → storedRuns e [] ≡ []
 unfolding storedRuns runsOf keysOf
 no-runs Plain = refl
 no-runs Nullable = refl
@@ -106,33 +106,47 @@ module _ (k : Kind) (e : Encoding) (target : ℕ) (rows : List Row) (r : Builder
   unfolding disagree
   agreed room = or-none not-wrong (room-enough k e rows (r .counted) a (g .recorded) room)
 
-  module _ (x : Row) (room : Enough k e (rows ++ (x ∷ [])) a) where
-    next-recorded : Recorded k e (rows ++ (x ∷ [])) (nextBy k e rows x (r .counted))
+  module _ (x : Row) where
+    pub next-recorded : Recorded k e (rows ++ (x ∷ [])) (nextBy k e rows x (r .counted))
     next-recorded = recorded-next k e rows x (r .counted) (g .recorded)
 
-    pub append-told :
-        added k e (r .counted) a x
+    -- into areas that are long enough for the rows so far
+    pub append-by-needs : Enough k e rows a
+        → added k e (r .counted) a x
         ≡ cond (not (fits k x)) (addedTo (nextOf ITEM (r .counted)) a)
         (cond (not (withinLimits k e (rows ++ (x ∷ [])))) (addedTo (nextOf LIMIT (r .counted)) a)
-        (addedTo (nextOf 0 (nextBy k e rows x (r .counted))) (writtenBy k e rows x (r .counted) a)))
+        (cond (tooShort k e (nextBy k e rows x (r .counted)) (roomOf a)) (addedTo (nextOf ROOM (r .counted)) a)
+        (addedTo (nextOf 0 (nextBy k e rows x (r .counted))) (writtenBy k e rows x (r .counted) a))))
     unfolding added addedBy addedWith
-    append-told =
+    append-by-needs room =
         rw (
-          agreed (enough-before k e rows x a room),
+          agreed room,
           step-told k e rows (r .counted) a x (g .recorded) (g .holds),
           past-limits k (rows ++ (x ∷ [])) (nextBy k e rows x (r .counted)) e next-recorded,
-          room-enough k e (rows ++ (x ∷ [])) (nextBy k e rows x (r .counted)) a next-recorded room,
         )
 
-    pub stands-next : fits k x ≡ true → withinLimits k e (rows ++ (x ∷ [])) ≡ true
-        → Stands k e target (rows ++ (x ∷ [])) (counting r (nextBy k e rows x (r .counted))) (writtenBy k e rows x (r .counted) a)
-    stands-next f w = record {
-      column = g .column;
-      aim = g .aim;
-      recorded = next-recorded;
-      holds = holds-next k e rows x (r .counted) a (g .recorded) room (g .holds) f (within-told k e rows (g .within) .entries);
-      within = w;
-    }
+    -- into areas that are long enough for the row too
+    module _ (room : Enough k e (rows ++ (x ∷ [])) a) where
+      pub append-told :
+          added k e (r .counted) a x
+          ≡ cond (not (fits k x)) (addedTo (nextOf ITEM (r .counted)) a)
+          (cond (not (withinLimits k e (rows ++ (x ∷ [])))) (addedTo (nextOf LIMIT (r .counted)) a)
+          (addedTo (nextOf 0 (nextBy k e rows x (r .counted))) (writtenBy k e rows x (r .counted) a)))
+      append-told =
+          rw (
+            append-by-needs (enough-before k e rows x a room),
+            room-enough k e (rows ++ (x ∷ [])) (nextBy k e rows x (r .counted)) a next-recorded room,
+          )
+
+      pub stands-next : fits k x ≡ true → withinLimits k e (rows ++ (x ∷ [])) ≡ true
+          → Stands k e target (rows ++ (x ∷ [])) (counting r (nextBy k e rows x (r .counted))) (writtenBy k e rows x (r .counted) a)
+      stands-next f w = record {
+        column = g .column;
+        aim = g .aim;
+        recorded = next-recorded;
+        holds = holds-next k e rows x (r .counted) a (g .recorded) room (g .holds) f (within-told k e rows (g .within) .entries);
+        within = w;
+      }
 
   -- of a row as it is given
   pub given-told : (v : Given) → appended r a (v .present) (v .value) (v .text) ≡ appendWith r (added k e (r .counted) a (rowIn k v))

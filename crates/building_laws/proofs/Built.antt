@@ -139,23 +139,23 @@ first-kept k e target done r a g v more one bad =
 
 -- ---- finish, the estimate and should_finish of a builder that stands well
 module _ (k : Kind) (e : Encoding) (target : ℕ) (rows : List Row) (r : Builder) (a : Lent) (g : Stands k e target rows r a) where
-  finish-told : Enough k e rows a → (out : List ℕ) → finished r a out ≡ finishedWith (blockOf k e rows) out
+  pub finish-told : Enough k e rows a → (out : List ℕ) → finished r a out ≡ finishedWith r (blockOf k e rows) out
   unfolding finished finishedIn
   finish-told h out =
       rw (g .column, agreed k e target rows r a g h, block-held k rows (r .counted) a e (g .recorded) (g .holds))
 
-  estimate-told : estimated r ≡ estimatedAs 0 (estimateOf k e rows)
+  pub estimate-told : estimated r ≡ estimatedAs 0 (estimateOf k e rows) r
   unfolding estimated estimatedIn
   estimate-told = rw (g .column, not-wrong k e target rows r a g, size-told k rows (r .counted) e (g .recorded))
 
-  asked-told : (next : Given) → asked r (next .present) (length (next .text)) ≡ askedAs 0 (shouldFinish k e target rows (rowIn k next))
+  pub asked-told : (next : Given) → asked r (next .present) (length (next .text)) ≡ askedAs 0 (shouldFinish k e target rows (rowIn k next)) r
   unfolding asked askedIn
   asked-told next = rw (g .column, not-wrong k e target rows r a g, full-told k rows (r .counted) (r .target) next e (g .recorded), g .aim)
 
 -- the block from the room's start on, and what lies behind it
-finish-due : (block out : List ℕ) → finishedWith block out ≡ finishDue block out
+pub finish-due : (r : Builder) (block out : List ℕ) → finishedWith r block out ≡ finishDue r block out
 unfolding finishedWith finishDue over
-finish-due block out = rw zero-add
+finish-due r block out = rw zero-add
 
 -- ---- from the creation on: rows appended one after the other, with areas that are long enough for all of them
 -- a pair of a kind and an encoding is given a builder
@@ -164,7 +164,7 @@ pub creation : (kind encoding width target : ℕ) (k : Kind) (e : Encoding) → 
 unfolding created createdIn
 creation kind encoding width target k e c = rw c
 
-created-told : (c : Column) (s r : Builder) (k : Kind) (e : Encoding) → c ≡ Of k e → createdIn c s ≡ New r → s ≡ r
+pub created-told : (c : Column) (s r : Builder) (k : Kind) (e : Encoding) → c ≡ Of k e → createdIn c s ≡ New r → s ≡ r
 unfolding createdIn
 created-told c s r k e p q = let z : New s ≡ New r = rw p at q in cc
 
@@ -197,21 +197,25 @@ module _ (kind encoding width target : ℕ) (k : Kind) (e : Encoding) (column : 
     there : Stands k e target (rowsIn k gs) (appendAll r a gs .answer .builder) (appendAll r a gs .areas)
     there = all .stands zero-told
 
-    -- Finish writes exactly the block of the list into any room that holds it, nothing past it, and answers its length; a shorter room is refused as 4.
+    -- Finish writes exactly the block of the list into any room that holds it, nothing past it, and answers its length; a shorter room is refused as 4. Either
+    -- way, as with the two below, the builder handed back is the one given.
     pub finish-gives-the-block : (out : List ℕ)
-        → finished (appendAll r a gs .answer .builder) (appendAll r a gs .areas) out ≡ finishDue (blockOf k e (rowsIn k gs)) out
+        → finished (appendAll r a gs .answer .builder) (appendAll r a gs .areas) out
+        ≡ finishDue (appendAll r a gs .answer .builder) (blockOf k e (rowsIn k gs)) out
     finish-gives-the-block out =
         finish-told k e target (rowsIn k gs) (appendAll r a gs .answer .builder) (appendAll r a gs .areas) there
         (kept-enough k e (rowsIn k gs) a (appendAll r a gs .areas) (all .kept zero-told) room) out
-        ∙ finish-due (blockOf k e (rowsIn k gs)) out
+        ∙ finish-due (appendAll r a gs .answer .builder) (blockOf k e (rowsIn k gs)) out
 
     -- The estimated size is that of the list.
-    pub estimate-of-the-list : estimated (appendAll r a gs .answer .builder) ≡ estimatedAs 0 (estimateOf k e (rowsIn k gs))
+    pub estimate-of-the-list :
+        estimated (appendAll r a gs .answer .builder) ≡ estimatedAs 0 (estimateOf k e (rowsIn k gs)) (appendAll r a gs .answer .builder)
     estimate-of-the-list = estimate-told k e target (rowsIn k gs) (appendAll r a gs .answer .builder) (appendAll r a gs .areas) there
 
     -- Whether to finish before a next row is what the list and that row say.
     pub should-finish-of-the-list : (next : Given)
-        → asked (appendAll r a gs .answer .builder) (next .present) (length (next .text)) ≡ askedAs 0 (shouldFinish k e target (rowsIn k gs) (rowIn k next))
+        → asked (appendAll r a gs .answer .builder) (next .present) (length (next .text))
+        ≡ askedAs 0 (shouldFinish k e target (rowsIn k gs) (rowIn k next)) (appendAll r a gs .answer .builder)
     should-finish-of-the-list next = asked-told k e target (rowsIn k gs) (appendAll r a gs .answer .builder) (appendAll r a gs .areas) there next
 
     -- A row that is then refused leaves the builder and the areas as the rows before it left them, whatever would follow.

@@ -1,5 +1,5 @@
 -- The entries and the keys of a list with one row more at its end: entries come last, and the keys of the rows before stay. Assumes nothing.
-use Prim.Native.Nat.{ℕ, suc, _+_, _-_, _≤_, _<_}
+use Prim.Native.Nat.{ℕ, suc, _-_, _≤_, _<_}
 use native.Mathlib.Omega.{arith}
 use mathlib.Core.Bool.{Bool, true, false, cond}
 use mathlib.Core.List.{List, [], _∷_, _++_, map, map-append}
@@ -10,11 +10,12 @@ use lib.Signed.{mag}
 use lib.ListN.{length, length-append}
 use borrow.Author.Tests.{lt-ltb, ltb-true, ltb-false, eqb-true, eqb-false, eq-eqb, ne-eqb}
 use Rattle.limits.specs.Limits.{MOST_ENTRIES}
+use Rattle.plain.specs.Each.{Each}
 use Rattle.plain.specs.Rows.{Row, null, int, bytes, same, fits}
+use Rattle.plain.proofs.Each.{each-append}
 use Rattle.nullable.specs.Nullable.{presence}
 use Rattle.dict.specs.Dictionary.{i32, indexOf, withEntry, entriesAfter, entriesOf, nullKey, entryKey, keyOf}
 use Rattle.format.specs.Sizes.{keysOf}
-use Rattle.building_laws.proofs.Lists.{Each, each-append}
 use Rattle.building_laws.proofs.Same.{same-refl}
 
 -- ---- the place of a row among the entries

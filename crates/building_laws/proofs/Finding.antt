@@ -16,15 +16,17 @@ use Rattle.encode.specs.declared.Primitive.{Primitive}
 use Rattle.encode.specs.declared.Kind.{Kind}
 use Rattle.encode.specs.declared.Kind.the-variants.{Fixed, Char, Blob}
 use Rattle.encode.proofs.RoundTrip.{round-trip, item-length}
+use Rattle.plain.specs.Each.{Each}
 use Rattle.plain.specs.Rows.{Row, null, int, bytes, intIn, bytesIn, same, fits}
 use Rattle.plain.specs.Plain.{joined, places, itemOf, endsFrom, fixedAt}
+use Rattle.plain.proofs.Each.{char-short}
 use Rattle.nullable.specs.Nullable.{presence}
 use Rattle.dict.specs.Dictionary.{indexOf}
 use Rattle.lookup.specs.declared.Looked.the-variants.{Entry}
 use Rattle.lookup.specs.Held.{Held, itemStart, heldRow, fieldWrong, lookFrom, lookUp}
-use Rattle.building_laws.proofs.Lists.{Each, each-first, each-second, length-snoc, joined-append, length-joined-snoc}
+use Rattle.building_laws.proofs.Lists.{each-first, each-second, length-snoc, joined-append, length-joined-snoc}
 use Rattle.building_laws.proofs.Same.{never}
-use Rattle.building_laws.proofs.Measures.{fixed-items, char-item, char-items}
+use Rattle.building_laws.proofs.Measures.{fixed-items, char-items}
 use Rattle.building_laws.proofs.AreasOfRows.{EndsHeld, LensHeld}
 
 -- what is held of some items
@@ -134,7 +136,7 @@ unfolding fieldWrong
 field-right (Fixed p) xs x ys h g = refl
 field-right (Char w) xs x ys h g =
     rw (len-of (h .lens) xs x ys (g .lens))
-    (le-ltb w (length (bytesIn x)) (char-item w x (each-second (λ y. fits (Char w) y ≡ true) xs (x ∷ ys) (g .fit) .0) .0))
+    (le-ltb w (length (bytesIn x)) (char-short w x (each-second (λ y. fits (Char w) y ≡ true) xs (x ∷ ys) (g .fit) .0)))
 field-right Blob xs x ys h g =
     let f : Row → List ℕ = itemOf Blob in
     let j : length (joined f (xs ++ (x ∷ ys))) ≡ length (joined f xs) + length (joined f (x ∷ ys)) = ap length (joined-append f xs (x ∷ ys)) ∙ length-append (joined f xs) (joined f (x ∷ ys)) in

@@ -1,5 +1,5 @@
 -- What finish, the estimate and should_finish make of a record that counts a list and of areas that hold it. Assumes nothing.
-use Prim.Native.Nat.{ℕ, _+_, _-_, _*_, _%_, _^_, _≤_}
+use Prim.Native.Nat.{ℕ, _+_, _*_, _%_, _^_}
 use native.Mathlib.Nat.{add-zero}
 use native.Mathlib.Omega.{arith}
 use mathlib.Core.Bool.{Bool, true, false, cond, _||_}
@@ -17,6 +17,7 @@ use Rattle.encode.specs.declared.Kind.{Kind}
 use Rattle.encode.specs.declared.Kind.the-variants.{Fixed, Char, Blob}
 use Rattle.encode.proofs.RoundTrip.{lowest, interval-parts}
 use Rattle.varint.specs.Varint.{spelling}
+use Rattle.plain.specs.Each.{Each}
 use Rattle.plain.specs.Rows.{Row, null, int, intIn, bytesIn, rowOf, valueOf, fits}
 use Rattle.plain.specs.Plain.{joined, places, itemOf, endsFrom, plainOf}
 use Rattle.nullable.specs.Nullable.{presence, bitmapOf, nullableOf, bitAt}
@@ -34,7 +35,7 @@ use Rattle.sizes.specs.Sizes.{innerSize, runSize, sizeBy, nextBytes, exceeds, i
 use Rattle.append.specs.Appending.{Lent}
 use Rattle.builder.specs.Finishing.{heldBlock}
 use Rattle.building_laws.specs.Built.{Given, rowIn, storedRows, storedRuns}
-use Rattle.building_laws.proofs.Lists.{Each, joined-map, joined-same}
+use Rattle.building_laws.proofs.Lists.{joined-map, joined-same}
 use Rattle.building_laws.proofs.Flags.{bitmap-told}
 use Rattle.building_laws.proofs.Measures.{keys-length, runs-some}
 use Rattle.building_laws.proofs.Records.{Recorded, stored-by, plain-by, rows-length}

@@ -7,6 +7,7 @@ pub mod Flags
 pub mod OneRowMore
 pub mod Measures
 pub mod Records
+pub mod Prefixes
 pub mod AreasOfRows
 pub mod Finding
 pub mod StepOfRow

@@ -1,24 +1,17 @@
 -- Laws of lists: each of them, one more at the end, and what stands one after another. Assumes nothing.
-use Prim.Native.Nat.{ℕ, suc, _+_, _-_, _*_, _≤_, _<_}
-use native.Mathlib.Nat.{add-zero, suc-mul, zero-mul}
+use Prim.Native.Nat.{ℕ, suc, _+_, _-_, _≤_, _<_}
+use native.Mathlib.Nat.{add-zero}
 use native.Mathlib.Omega.{arith}
 use mathlib.Core.List.{List, [], _∷_, _++_, map, append-assoc, append-nil}
 use mathlib.Core.Path.{_≡_, refl, sym, ap, _∙_}
 use lib.ListN.{length, take, drop, set, length-append}
 use lib.Seq.{take-at, take-suc-set, take-take}
 use Rattle.area.specs.Area.{over}
+use Rattle.plain.specs.Each.{Each}
 use Rattle.plain.specs.Plain.{joined, endsFrom}
 
 module _ {A : Type 0} where
   -- ---- each of a list
-  abbrev pub Each : (A → Type 0) → List A → Type 0
-  Each P [] = Unit
-  Each P (x ∷ xs) = P x × Each P xs
-
-  pub each-append : (P : A → Type 0) (xs ys : List A) → Each P xs → Each P ys → Each P (xs ++ ys)
-  each-append P [] ys h g = g
-  each-append P (x ∷ xs) ys h g = (h .0, each-append P xs ys (h .1) g)
-
   pub each-first : (P : A → Type 0) (xs ys : List A) → Each P (xs ++ ys) → Each P xs
   each-first P [] ys h = tt
   each-first P (x ∷ xs) ys h = (h .0, each-first P xs ys (h .1))
@@ -70,17 +63,6 @@ module _ {A : Type 0} where
   pub length-joined-snoc : (f : A → List ℕ) (xs : List A) (x : A) → length (joined f (xs ++ (x ∷ []))) ≡ length (joined f xs) + length (f x)
   length-joined-snoc f xs x = ap length (joined-snoc f xs x) ∙ length-append (joined f xs) (f x)
 
-  -- items of the same length
-  pub length-joined : (f : A → List ℕ) (w : ℕ) (xs : List A) → Each (λ x. length (f x) ≡ w) xs → length (joined f xs) ≡ length xs * w
-  unfolding joined
-  length-joined f w [] h = sym (zero-mul w)
-  length-joined f w (x ∷ xs) h =
-      let a = length-append (f x) (joined f xs) in
-      let b = length-joined f w xs (h .1) in
-      let c = h .0 in
-      let d = suc-mul (length xs) w in
-      omega arith
-
   -- two functions that agree on each
   pub joined-same : (f g : A → List ℕ) (xs : List A) → Each (λ x. f x ≡ g x) xs → joined f xs ≡ joined g xs
   unfolding joined
@@ -95,10 +77,6 @@ module _ {A : Type 0} where
       let e : at + length (f y) + length (joined f xs) + length (f x) ≡ at + length (f y ++ joined f xs) + length (f x)
       = omega (arith, length-append (f y) (joined f xs)) in
       rw (ends-snoc f (at + length (f y)) xs x, e)
-
-  pub all-each : (P : A → Type 0) → ((x : A) → P x) → (xs : List A) → Each P xs
-  all-each P h [] = tt
-  all-each P h (x ∷ xs) = (h x, all-each P h xs)
 
 pub joined-map : {A B : Type 0} (f : B → List ℕ) (g : A → B) (xs : List A) → joined f (map g xs) ≡ joined (λ x. f (g x)) xs
 unfolding joined

@@ -1,58 +1,41 @@
 -- How long blocks of lists are, by what they store. Assumes nothing.
-use Prim.Native.Nat.{ℕ, _+_, _-_, _*_, _≤_, _<_}
+use Prim.Native.Nat.{ℕ, _+_, _*_, _≤_, _<_}
 use native.Mathlib.Nat.{mul-comm}
 use native.Mathlib.Omega.{arith}
 use mathlib.Core.Bool.{Bool, true, false, cond, _&&_}
 use mathlib.Core.List.{List, [], _∷_, _++_, map}
 use mathlib.Core.Path.{_≡_, refl, _∙_}
 use lib.Dec.{ltb, eqb}
-use lib.ListN.{length, replicate, length-append, length-map, length-replicate}
-use borrow.Author.Tests.{leb-true, ne-eqb}
+use lib.ListN.{length, length-append, length-map}
+use borrow.Author.Tests.{ne-eqb}
 use Rattle.limits.specs.Limits.{MOST_COUNT}
 use Rattle.encode.specs.Bytes.{low-first, little, big}
 use Rattle.encode.specs.Kinds.{widthOf}
 use Rattle.encode.specs.declared.Primitive.{Primitive}
 use Rattle.encode.specs.declared.Kind.{Kind}
 use Rattle.encode.specs.declared.Kind.the-variants.{Fixed, Char, Blob}
-use Rattle.encode.proofs.RoundTrip.{length-bytes, item-length}
-use Rattle.plain.specs.Rows.{Row, null, int, bytes, intIn, bytesIn, same, fits}
+use Rattle.encode.proofs.RoundTrip.{length-bytes}
+use Rattle.plain.specs.Each.{Each}
+use Rattle.plain.specs.Rows.{Row, same, fits}
 use Rattle.plain.specs.Plain.{joined, itemOf, endsFrom, plainOf}
+use Rattle.plain.proofs.Each.{Wide, all-each, length-joined, fixed-wide, char-wide}
 use Rattle.plain.proofs.Ends.{length-ends}
 use Rattle.rle.specs.RunLength.{Run, run, runsFrom, runsOf, countsOf, runLengthOf}
 use Rattle.dict.specs.Dictionary.{i32, entriesOf, keyBlockOf, dictionaryOf}
 use Rattle.format.specs.Sizes.{runRows}
 use Rattle.needs.specs.Needs.{plainBytes}
-use Rattle.building_laws.proofs.Lists.{Each, all-each, length-joined}
-use Rattle.building_laws.proofs.Same.{never}
 
 -- ---- items
 pub fixed-items : (p : Primitive) (s : List Row) → length (joined (itemOf (Fixed p)) s) ≡ length s * widthOf p
 unfolding itemOf
-fixed-items p s = length-joined (itemOf (Fixed p)) (widthOf p) s (all-each (λ x. length (itemOf (Fixed p) x) ≡ widthOf p) (λ x. item-length p (intIn x)) s)
-
--- a char that fits takes the width
-pub char-item : (w : ℕ) (x : Row) → fits (Char w) x ≡ true → (length (bytesIn x) ≤ w) × (length (itemOf (Char w) x) ≡ w)
-unfolding fits itemOf bytesIn
-char-item w null h =
-    let r = length-replicate {A = ℕ} (w - 0) 0 in
-    (omega arith, omega arith)
-char-item w (int v) h = never h
-char-item w (bytes bs) h =
-    let l = leb-true (length bs) w h in
-    let a = length-append bs (replicate (w - length bs) 0) in
-    let r = length-replicate {A = ℕ} (w - length bs) 0 in
-    (l, omega arith)
-
-char-each : (w : ℕ) (s : List Row) → Each (λ x. fits (Char w) x ≡ true) s → Each (λ x. length (itemOf (Char w) x) ≡ w) s
-char-each w [] h = tt
-char-each w (x ∷ s) h = (char-item w x (h .0) .1, char-each w s (h .1))
+fixed-items p s = length-joined (itemOf (Fixed p)) (widthOf p) s (fixed-wide p s)
 
 pub char-items : (w : ℕ) (s : List Row) → Each (λ x. fits (Char w) x ≡ true) s → length (joined (itemOf (Char w)) s) ≡ length s * w
-char-items w s h = length-joined (itemOf (Char w)) w s (char-each w s h)
+char-items w s h = length-joined (itemOf (Char w)) w s (char-wide w s h)
 
 -- ---- plain blocks
 fours : (es : List ℕ) → length (joined (little 4) es) ≡ 4 * length es
-fours es = length-joined (little 4) 4 es (all-each (λ e. length (little 4 e) ≡ 4) (λ e. length-bytes low-first 4 e) es) ∙ mul-comm (length es) 4
+fours es = length-joined (little 4) 4 es (all-each (Wide (little 4) 4) (λ e. length-bytes low-first 4 e) es) ∙ mul-comm (length es) 4
 
 pub plain-length : (k : Kind) (s : List Row) → plainBytes k (length s) (length (joined (itemOf k) s)) ≡ length (plainOf k s)
 unfolding plainBytes plainOf

@@ -141,19 +141,19 @@ bytes-least : (f : Row → List ℕ) (item : Bool) (x : Row) (s s′ : List Row)
 bytes-least f true x s s′ g = rw g (omega (arith, length-joined-snoc f s x))
 bytes-least f false x s s′ g = rw g (omega arith)
 
-ends-least : (k : Kind) (m n : ℕ) → m ≤ n → endSlots k m ≤ endSlots k n
+pub ends-least : (k : Kind) (m n : ℕ) → m ≤ n → endSlots k m ≤ endSlots k n
 unfolding endSlots
 ends-least (Fixed p) m n h = omega arith
 ends-least (Char w) m n h = omega arith
 ends-least Blob m n h = h
 
-lens-least : (k : Kind) (m n : ℕ) → m ≤ n → lenSlots k m ≤ lenSlots k n
+pub lens-least : (k : Kind) (m n : ℕ) → m ≤ n → lenSlots k m ≤ lenSlots k n
 unfolding lenSlots
 lens-least (Fixed p) m n h = omega arith
 lens-least (Char w) m n h = h
 lens-least Blob m n h = omega arith
 
-flags-least : (t : Bool) (m n : ℕ) → m ≤ n → cond t (bitmapLength m) 0 ≤ cond t (bitmapLength n) 0
+pub flags-least : (t : Bool) (m n : ℕ) → m ≤ n → cond t (bitmapLength m) 0 ≤ cond t (bitmapLength n) 0
 unfolding bitmapLength
 flags-least true m n h = omega arith
 flags-least false m n h = omega arith

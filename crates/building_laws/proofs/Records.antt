@@ -13,23 +13,24 @@ use Rattle.encode.proofs.Bools.{or-none}
 use Rattle.encode.specs.Kinds.{widthOf}
 use Rattle.encode.specs.declared.Kind.{Kind}
 use Rattle.encode.specs.declared.Kind.the-variants.{Fixed, Char, Blob}
+use Rattle.plain.specs.Each.{Each}
 use Rattle.plain.specs.Rows.{Row, fits}
 use Rattle.plain.specs.Plain.{joined, itemOf, plainOf}
 use Rattle.nullable.specs.Nullable.{bitmapLength, presence, nullableOf}
 use Rattle.nullable.proofs.Parts as NullableParts
 use Rattle.rle.specs.RunLength.{Run, runsOf, countsOf}
 use Rattle.dict.specs.Dictionary.{i32, entriesOf, keyBlockOf}
-use Rattle.encode.proofs.Bools.{both}
 use Rattle.format.specs.declared.Encoding.{Encoding}
 use Rattle.format.specs.declared.Encoding.the-variants.{Plain, Nullable, RunLength, RunLengthNullable, Dictionary}
 use Rattle.format.specs.Blocks.{blockOf}
 use Rattle.format.specs.Sizes.{runRows, keysOf, storedItems, storedEntries, withinLimits}
+use Rattle.format.proofs.Within.{within-told}
 use Rattle.needs.specs.declared.Counted.{Counted}
 use Rattle.needs.specs.Needs.{coded, flagged, keyed, storedBy, plainBytes, innerBytes, runBytes, finishedBytes, countsPast, pastLimits, bytesWrong, recordWrong, fieldsShort, runsShort, tooShort}
 use Rattle.step.specs.Counting.{grown}
 use Rattle.append.specs.Appending.{Lent, roomOf}
 use Rattle.building_laws.specs.Built.{storedRows, storedRuns, endSlots, lenSlots, Enough}
-use Rattle.building_laws.proofs.Lists.{Each, length-snoc}
+use Rattle.building_laws.proofs.Lists.{length-snoc}
 use Rattle.building_laws.proofs.Same.{never}
 use Rattle.building_laws.proofs.Runs.{lastRun, Grows}
 use Rattle.building_laws.proofs.FieldsAndSlots.{runs-field, last-field, counts-field, bytes-field}
@@ -158,18 +159,6 @@ module _ (k : Kind) (rows : List Row) (r : Counted) where
       (past-four (length rows) (length (runsOf (keysOf rows))) (length (blockOf k Dictionary rows)) MOST_ROWS MOST_ITEMS MOST_BYTES
       (ltb MOST_ENTRIES (length (entriesOf rows))) (leb (length (entriesOf rows)) MOST_ENTRIES) (past-one (length (entriesOf rows)) MOST_ENTRIES))
 
--- what is within the limits
-pub record Within (k : Kind) (e : Encoding) (rows : List Row) : Type 0 where
-  pub entries : storedEntries e rows ≤ MOST_ENTRIES
-  pub block : length (blockOf k e rows) ≤ MOST_BYTES
-
-pub within-told : (k : Kind) (e : Encoding) (rows : List Row) → withinLimits k e rows ≡ true → Within k e rows
-unfolding withinLimits
-within-told k e rows h =
-    let a = both (leb (length rows) MOST_ROWS && leb (storedItems e rows) MOST_ITEMS && leb (storedEntries e rows) MOST_ENTRIES) (leb (length (blockOf k e rows)) MOST_BYTES) h in
-    let b = both (leb (length rows) MOST_ROWS && leb (storedItems e rows) MOST_ITEMS) (leb (storedEntries e rows) MOST_ENTRIES) (a .0) in
-    record { entries = leb-true (storedEntries e rows) MOST_ENTRIES (b .1); block = leb-true (length (blockOf k e rows)) MOST_BYTES (a .1) }
-
 -- ---- a record that says what a list within the limits comes to is not wrong
 bytes-right : (k : Kind) (s : List Row) → Each (λ x. fits k x ≡ true) s → bytesWrong k (length s) (length (joined (itemOf k) s)) ≡ false
 unfolding bytesWrong joined
@@ -197,7 +186,7 @@ module _ (k : Kind) (e : Encoding) (rows : List Row) (r : Counted) (h : Recorded
   pub record-right : Each (λ x. fits k x ≡ true) (storedRows e rows) → withinLimits k e rows ≡ true → recordWrong k e r ≡ false
   unfolding recordWrong
   record-right f w =
-      let c : r .counts ≤ MOST_BYTES = omega (arith, h .counts, counts-small k e rows, within-told k e rows w .block) in
+      let c : r .counts ≤ MOST_BYTES = omega (arith, h .counts, counts-small k e rows, within-told k e rows w .size) in
       or-none
       (or-none
       (and-never (coded e) (ltb MOST_BYTES (r .counts)) (le-ltb MOST_BYTES (r .counts) c))

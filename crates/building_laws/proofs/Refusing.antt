@@ -1,5 +1,5 @@
--- For every record and all memory: a refused append or finish leaves what it was given as it was; and a promise leaves room for one answer. Assumes
--- nothing.
+-- For every record and all memory: a refused append or finish leaves what it was given as it was; finish, estimate and should_finish hand the record back
+-- as it was, refused or not. Assumes nothing.
 use Prim.Native.Nat.{ℕ}
 use mathlib.Core.Bool.{Bool, true, false, cond}
 use mathlib.Core.List.{List}
@@ -16,12 +16,13 @@ use Rattle.format.specs.declared.Column.{Column}
 use Rattle.format.specs.declared.Column.the-variants.{Of, Unknown}
 use Rattle.format.specs.Blocks.{columnOf}
 use Rattle.builder.specs.declared.Builder.{Builder}
-use Rattle.needs.specs.declared.Counted.{Counted}
-use Rattle.needs.specs.Needs.{disagree}
+use Rattle.needs.specs.Needs.{disagree, recordWrong}
+use Rattle.sizes.specs.Sizes.{sizeBy, fullBy}
 use Rattle.append.specs.Appending.{Lent, roomOf}
 use Rattle.append.proofs.Refusals.{added-keeps}
 use Rattle.builder.specs.Building.{counting, appendedIn, appended}
 use Rattle.builder.specs.Finishing.{Finish, finishOf, heldBlock, finishedWith, finishedIn, finished}
+use Rattle.builder.specs.Finishing.{estimatedAs, estimatedIn, estimated, askedAs, askedIn, asked}
 
 -- ---- append
 in-keeps :
@@ -38,31 +39,62 @@ unfolding appended
 refused-append r a present v bs = in-keeps r a (columnOf (r .kind) (r .encoding) (r .width)) present v bs
 
 -- ---- finish
-module _ (out : List ℕ) where
+module _ (r : Builder) (out : List ℕ) where
+  -- a refusal is its number alone; refused or not, the record comes back
   abbrev Leaves : Finish → Type 0
-  Leaves x = (x .answer .number ≡ 0 → ⊥) → (x .answer .len ≡ 0) × (x .out ≡ out)
+  Leaves x = ((x .answer .number ≡ 0 → ⊥) → x ≡ finishOf (x .answer .number) 0 r out) × (x .answer .builder ≡ r)
 
   one-of : (b : Bool) (x y : Finish) → Leaves x → Leaves y → Leaves (cond b x y)
   one-of true x y f g = f
   one-of false x y f g = g
 
-  nothing : (n : ℕ) → Leaves (finishOf n 0 out)
-  nothing n h = (refl, refl)
+  nothing : (n : ℕ) → Leaves (finishOf n 0 r out)
+  nothing n = (λ h. refl, refl)
 
-  with-leaves : (block : List ℕ) → Leaves (finishedWith block out)
+  with-leaves : (block : List ℕ) → Leaves (finishedWith r block out)
   unfolding finishedWith
-  with-leaves block = one-of (ltb (length out) (length block)) _ _ (nothing ROOM) (λ h. absurd (h refl))
+  with-leaves block = one-of (ltb (length out) (length block)) _ _ (nothing ROOM) (λ h. absurd (h refl), refl)
 
-  in-leaves : (c : Column) (r : Counted) (a : Lent) → Leaves (finishedIn c r a out)
+  in-leaves : (c : Column) (a : Lent) → Leaves (finishedIn c r a out)
   unfolding finishedIn
-  in-leaves Unknown r a = nothing DISAGREE
-  in-leaves (Of k e) r a = one-of (disagree k e r (roomOf a)) _ _ (nothing DISAGREE) (with-leaves (heldBlock k e r a))
+  in-leaves Unknown a = nothing DISAGREE
+  in-leaves (Of k e) a = one-of (disagree k e (r .counted) (roomOf a)) _ _ (nothing DISAGREE) (with-leaves (heldBlock k e (r .counted) a))
 
-  pub refused-finish :
-      (r : Builder) (a : Lent) → (finished r a out .answer .number ≡ 0 → ⊥) → (finished r a out .answer .len ≡ 0) × (finished r a out .out ≡ out)
+  leaves : (a : Lent) → Leaves (finished r a out)
   unfolding finished
-  refused-finish r a = in-leaves (columnOf (r .kind) (r .encoding) (r .width)) (r .counted) a
+  leaves a = in-leaves (columnOf (r .kind) (r .encoding) (r .width)) a
 
--- ---- each promise is an equation with a definition: two answers that satisfy it coincide
-pub one-answer : {A : Type 0} (x y due : A) → x ≡ due → y ≡ due → x ≡ y
-one-answer x y due p q = p ∙ sym q
+  pub refused-finish : (a : Lent) → (finished r a out .answer .number ≡ 0 → ⊥) → finished r a out ≡ finishOf (finished r a out .answer .number) 0 r out
+  refused-finish a = leaves a .0
+
+  pub finish-hands-back : (a : Lent) → finished r a out .answer .builder ≡ r
+  finish-hands-back a = leaves a .1
+
+-- ---- estimate and should_finish
+module _ (r : Builder) where
+  estimate-by : (c : Column) → estimatedIn c r .builder ≡ r
+  unfolding estimatedIn
+  estimate-by Unknown = refl
+  estimate-by (Of k e) = go (recordWrong k e (r .counted))
+    where
+      go : (b : Bool) → cond b (estimatedAs DISAGREE 0 r) (estimatedAs 0 (sizeBy k e (r .counted)) r) .builder ≡ r
+      go true = refl
+      go false = refl
+
+  pub estimate-hands-back : estimated r .builder ≡ r
+  unfolding estimated
+  estimate-hands-back = estimate-by (columnOf (r .kind) (r .encoding) (r .width))
+
+  module _ (present : Bool) (len : ℕ) where
+    asked-by : (c : Column) → askedIn c r present len .builder ≡ r
+    unfolding askedIn
+    asked-by Unknown = refl
+    asked-by (Of k e) = go (recordWrong k e (r .counted))
+      where
+        go : (b : Bool) → cond b (askedAs DISAGREE false r) (askedAs 0 (fullBy k e (r .counted) (r .target) present len) r) .builder ≡ r
+        go true = refl
+        go false = refl
+
+    pub should-finish-hands-back : asked r present len .builder ≡ r
+    unfolding asked
+    should-finish-hands-back = asked-by (columnOf (r .kind) (r .encoding) (r .width))

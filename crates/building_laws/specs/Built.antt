@@ -3,7 +3,7 @@
 use Prim.Native.Nat.{ℕ, _≤_}
 use mathlib.Core.Path.{_≡_}
 use mathlib.Core.Logic.{_⊎_}
-use mathlib.Core.Bool.{Bool, true, false, cond, not}
+use mathlib.Core.Bool.{Bool, true, false, cond, not, _&&_}
 use mathlib.Core.List.{List, [], _∷_, _++_, map}
 use lib.Dec.{ltb, eqb}
 use lib.IntN.{ℤ}
@@ -47,6 +47,11 @@ unfoldable pub appendAll : Builder → Lent → List Given → Append
 appendAll r a [] = appendOf 0 r a
 appendAll r a (g ∷ gs) = onward (appended r a (g .present) (g .value) (g .text)) (λ s b. appendAll s b gs)
 
+-- ---- a list is accepted, appended row by row, if each row fits its kind and each prefix stays within the limits; `row-by-row` says that this is `accepted`
+unfoldable pub acceptedAfter : Kind → Encoding → List Row → List Row → Bool
+acceptedAfter k e done [] = true
+acceptedAfter k e done (r ∷ rows) = fits k r && withinLimits k e (done ++ (r ∷ [])) && acceptedAfter k e (done ++ (r ∷ [])) rows
+
 -- ---- what ought to be answered: 2 for the first row that does not fit, or 3 for the first whose prefix passes a limit; 2 before 3, and 0 if none is
 unfoldable pub verdictAfter : Kind → Encoding → List Row → List Row → ℕ
 verdictAfter k e done [] = 0
@@ -69,9 +74,11 @@ pub record FirstRefused (k : Kind) (e : Encoding) (rows : List Row) (v : ℕ) : 
   pub why : ((v ≡ ITEM) × (fits k row ≡ false)) ⊎ ((v ≡ LIMIT) × (fits k row ≡ true) × (withinLimits k e (before ++ (row ∷ [])) ≡ false))
 
 -- what finish ought to answer, with the block and the room that it is lent: 4 if the room is shorter; else the block's length, and from the room's start on
--- the block, with what lies behind it as it was
-unfoldable pub finishDue : List ℕ → List ℕ → Finish
-finishDue block out = cond (ltb (length out) (length block)) (finishOf ROOM 0 out) (finishOf 0 (length block) (block ++ drop (length block) out))
+-- the block, with what lies behind it as it was; the builder goes back as it was given
+unfoldable pub finishDue : Builder → List ℕ → List ℕ → Finish
+finishDue r block out =
+    cond (ltb (length out) (length block)) (finishOf ROOM 0 r out)
+    (finishOf 0 (length block) r (block ++ drop (length block) out))
 
 -- ---- what the block of the list stores
 -- the items: the rows, one a run, or the entries

@@ -9,9 +9,9 @@ ghost use mathlib.Core.Path.{_≡_};
 ghost use mathlib.Core.Bool.{not};
 ghost use lib.Dec.{eqb};
 ghost use Rattle.append.specs.Appending.{lent};
-ghost use Rattle.builder.specs.Building.{created, appended};
-ghost use Rattle.builder.specs.Finishing.{finished, estimated, asked};
-ghost use Rattle.capi.specs.Answers.{noBuilder, creationOf};
+ghost use Rattle.builder.specs.Building.{appended};
+ghost use Rattle.capi.specs.Answers.{noBuilder};
+ghost use Rattle.capi.specs.Promises.{Creates, Finishes, Estimates, Asks};
 
 // What creation answers: 0 and a builder, or a refusal and the record that every call refuses.
 #[repr(C)]
@@ -37,7 +37,7 @@ fn is_present(flag: u8) -> bool
 // A builder with nothing appended.
 #[no_mangle]
 pub extern "C" fn idz_create(kind: usize, encoding: usize, width: usize, target: usize) -> Creation
-    ensures { λ r. ⌜ r ≡ creationOf (created kind encoding width target) ⌝ }
+    ensures { λ r. ⌜ Creates kind encoding width target r ⌝ }
 {
     let answer = builder::create(kind, encoding, width, target);
     match answer {
@@ -101,12 +101,9 @@ pub extern "C" fn idz_finish(
     lens: &[u8],
     out: &mut [u8],
 ) -> Finished
-    ensures { λ r. ⌜ r
-        ≡ finished builder (lent (now (items .entry)) (now (ends .entry)) (now (flags .entry)) (now (counts .entry)) (now (keys .entry)) (now (lens .entry)))
-        (now (out .entry)) .answer ⌝ }
-    ensures { λ _. ⌜ now (out .exit)
-        ≡ finished builder (lent (now (items .entry)) (now (ends .entry)) (now (flags .entry)) (now (counts .entry)) (now (keys .entry)) (now (lens .entry)))
-        (now (out .entry)) .out ⌝ }
+    ensures { λ r. ⌜ Finishes builder
+        (lent (now (items .entry)) (now (ends .entry)) (now (flags .entry)) (now (counts .entry)) (now (keys .entry)) (now (lens .entry)))
+        (now (out .entry)) r (now (out .exit)) ⌝ }
 {
     builder.finish(items, ends, flags, counts, keys, lens, out)
 }
@@ -114,7 +111,7 @@ pub extern "C" fn idz_finish(
 // The estimated size of the block.
 #[no_mangle]
 pub extern "C" fn idz_estimate(builder: Builder) -> Estimated
-    ensures { λ r. ⌜ r ≡ estimated builder ⌝ }
+    ensures { λ r. ⌜ Estimates builder r ⌝ }
 {
     builder.estimate()
 }
@@ -122,7 +119,7 @@ pub extern "C" fn idz_estimate(builder: Builder) -> Estimated
 // Whether to finish before a next row: whether that row is present, and the length of its bytes.
 #[no_mangle]
 pub extern "C" fn idz_should_finish(builder: Builder, present: u8, len: usize) -> Asked
-    ensures { λ r. ⌜ r ≡ asked builder (not (eqb present 0)) len ⌝ }
+    ensures { λ r. ⌜ Asks builder (not (eqb present 0)) len r ⌝ }
 {
     let there = is_present(present);
     builder.should_finish(there, len)

@@ -7,8 +7,8 @@ use block::Left;
 use block::Opening;
 use block::Reader;
 use block::Skipped;
-ghost use mathlib.Core.Path.{_≡_};
-ghost use Rattle.block.specs.Reading.{opened, openingOf, skipped, remaining, batched, areas};
+ghost use Rattle.block.specs.Reading.{areas};
+ghost use Rattle.capi.specs.Promises.{Opens, Batches, Skips, Remains};
 
 // Opens a block of `rows` rows.
 #[no_mangle]
@@ -19,7 +19,7 @@ pub extern "C" fn idz_open(
     rows: usize,
     bytes: &[u8],
 ) -> Opening
-    ensures { λ r. ⌜ r ≡ openingOf (opened kind encoding width rows (now (bytes .entry))) ⌝ }
+    ensures { λ r. ⌜ Opens kind encoding width rows (now (bytes .entry)) r ⌝ }
 {
     block::open_by_number(kind, encoding, width, rows, bytes)
 }
@@ -35,11 +35,9 @@ pub extern "C" fn idz_batch(
     ends: &mut [u32],
     bytes: &mut [u8],
 ) -> Given
-    ensures { λ r. ⌜ r ≡ batched reader (now (block .entry)) size (areas (now (values .entry)) (now (flags .entry)) (now (ends .entry)) (now (bytes .entry))) .answer ⌝ }
-    ensures { λ _. ⌜ now (values .exit) ≡ batched reader (now (block .entry)) size (areas (now (values .entry)) (now (flags .entry)) (now (ends .entry)) (now (bytes .entry))) .areas .values ⌝ }
-    ensures { λ _. ⌜ now (flags .exit) ≡ batched reader (now (block .entry)) size (areas (now (values .entry)) (now (flags .entry)) (now (ends .entry)) (now (bytes .entry))) .areas .flags ⌝ }
-    ensures { λ _. ⌜ now (ends .exit) ≡ batched reader (now (block .entry)) size (areas (now (values .entry)) (now (flags .entry)) (now (ends .entry)) (now (bytes .entry))) .areas .ends ⌝ }
-    ensures { λ _. ⌜ now (bytes .exit) ≡ batched reader (now (block .entry)) size (areas (now (values .entry)) (now (flags .entry)) (now (ends .entry)) (now (bytes .entry))) .areas .bytes ⌝ }
+    ensures { λ r. ⌜ Batches reader (now (block .entry)) size
+        (areas (now (values .entry)) (now (flags .entry)) (now (ends .entry)) (now (bytes .entry)))
+        r (areas (now (values .exit)) (now (flags .exit)) (now (ends .exit)) (now (bytes .exit))) ⌝ }
 {
     reader.batch(block, size, values, flags, ends, bytes)
 }
@@ -47,7 +45,7 @@ pub extern "C" fn idz_batch(
 // Passes over `rows` rows.
 #[no_mangle]
 pub extern "C" fn idz_skip(reader: Reader, block: &[u8], rows: usize) -> Skipped
-    ensures { λ r. ⌜ r ≡ skipped reader (now (block .entry)) rows ⌝ }
+    ensures { λ r. ⌜ Skips reader (now (block .entry)) rows r ⌝ }
 {
     reader.skip(block, rows)
 }
@@ -55,7 +53,7 @@ pub extern "C" fn idz_skip(reader: Reader, block: &[u8], rows: usize) -> Skipped
 // How many rows are left.
 #[no_mangle]
 pub extern "C" fn idz_remaining(reader: Reader) -> Left
-    ensures { λ r. ⌜ r ≡ remaining reader ⌝ }
+    ensures { λ r. ⌜ Remains reader r ⌝ }
 {
     reader.remaining()
 }

@@ -127,7 +127,7 @@ fn copy_by_eight(src: &[u8], from: usize, n: usize, dst: &mut [u8], at: usize)
 {
     let mut i = 0;
     while 8 <= n - i {
-        area::put8(plain::item8(src, from + i), dst, at + i);
+        area::put(plain::item(src, from + i, 8), 8, dst, at + i);
         i += 8;
     }
     area::copy(src, from + i, n - i, dst, at + i);

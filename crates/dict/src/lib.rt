@@ -11,14 +11,14 @@ pub fn key_len(s: &[u8]) -> u64
     requires { ⌜ 12 ≤ length (now s) ⌝ }
     ensures { λ r. ⌜ r ≡ keyLength (now (s .entry)) ⌝ }
 {
-    encode::high8(plain::item8(s, 0))
+    encode::high8(plain::item(s, 0, 8))
 }
 
 pub fn entries_in(s: &[u8]) -> usize
     requires { ⌜ 12 ≤ length (now s) ⌝ }
     ensures { λ r. ⌜ (r ≡ entriesIn (now (s .entry))) × (r < 2 ^ 32) ⌝ }
 {
-    encode::high4(plain::item4(s, 8)) as usize
+    encode::high4(plain::item(s, 8, 4)) as usize
 }
 
 // What key `i` names: 0 for null, k + 1 for entry k. A key counts from null's, which is -2^31, so no sign is needed.

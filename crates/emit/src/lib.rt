@@ -25,7 +25,7 @@ fn put_low4(n: usize, out: &mut [u8], at: usize) -> usize
     ensures { λ r. ⌜ r ≡ at + 4 ⌝ }
     ensures { λ _. ⌜ now (out .exit) ≡ sets (now (out .entry)) at (little 4 n) ⌝ }
 {
-    area::put4(encode::low_first4(n as u64), out, at);
+    area::put(encode::low_first4(n as u64), 4, out, at);
     at + 4
 }
 
@@ -285,7 +285,7 @@ pub fn write_dictionary(
         ≡ sets (now (out .entry)) 0 (heldDictionary kind entries len n (now (items .entry)) (now (ends .entry)) (now (counts .entry)) (now (keys .entry))) ⌝ }
 {
     let behind = write_key_block(n, size, counts, keys, out, 12);
-    area::put8(encode::high_first((behind - 12) as u64), out, 0);
-    area::put4(encode::high_first4(entries as u64), out, 8);
+    area::put(encode::high_first((behind - 12) as u64), 8, out, 0);
+    area::put(encode::high_first4(entries as u64), 4, out, 8);
     write_plain(kind, entries, len, items, ends, out, behind);
 }

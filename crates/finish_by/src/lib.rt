@@ -60,8 +60,10 @@ fn finish(
     show_byte(answer.number);
     show_size(answer.len);
     show_room(state.view, room, n.value);
+    let same = answer.builder;
     let mut next = state;
     next.at = n.next;
+    next.builder = same;
     next
 }
 

@@ -1,7 +1,7 @@
 -- 01, "Sizes" and the limits of "What comes back", of a list of rows. Assumes nothing.
 use Prim.Native.Nat.{ℕ, _+_, _*_}
-use mathlib.Core.Bool.{Bool, true, false, not, _&&_, _||_}
-use mathlib.Core.List.{List, [], _∷_, _++_, map}
+use mathlib.Core.Bool.{Bool, true, not, _&&_, _||_}
+use mathlib.Core.List.{List, [], _∷_, map}
 use lib.Dec.{ltb, leb, eqb}
 use lib.ListN.{length}
 use Rattle.limits.specs.Limits.{MOST_ROWS, MOST_ITEMS, MOST_ENTRIES, MOST_BYTES}
@@ -96,10 +96,10 @@ withinLimits k e rows =
     && leb (storedEntries e rows) MOST_ENTRIES
     && leb (length (blockOf k e rows)) MOST_BYTES
 
--- a list is accepted, appended row by row, if each row fits its kind and each prefix stays within the limits
-unfoldable pub acceptedAfter : Kind → Encoding → List Row → List Row → Bool
-acceptedAfter k e done [] = true
-acceptedAfter k e done (r ∷ rows) = fits k r && withinLimits k e (done ++ (r ∷ [])) && acceptedAfter k e (done ++ (r ∷ [])) rows
+-- a list is accepted if each row fits its kind and the whole list is within the limits
+unfoldable pub allFit : Kind → List Row → Bool
+allFit k [] = true
+allFit k (r ∷ rows) = fits k r && allFit k rows
 
 unfoldable pub accepted : Kind → Encoding → List Row → Bool
-accepted k e rows = acceptedAfter k e [] rows
+accepted k e rows = allFit k rows && withinLimits k e rows

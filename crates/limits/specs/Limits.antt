@@ -1,5 +1,7 @@
 -- 01's limits, by name. Assumes nothing.
 use Prim.Native.Nat.{ℕ}
+use mathlib.Core.Bool.{Bool, _||_}
+use lib.Dec.{eqb}
 
 -- rows of a block
 abbrev pub MOST_ROWS : ℕ
@@ -32,3 +34,7 @@ MOST_INPUT = 65536
 -- bytes of a char item
 abbrev pub MOST_WIDTH : ℕ
 MOST_WIDTH = 255
+
+-- an encoded item of a fixed kind is one, two, four or eight bytes wide
+abbrev pub isWidth : ℕ → Bool
+isWidth w = eqb w 1 || eqb w 2 || eqb w 4 || eqb w 8

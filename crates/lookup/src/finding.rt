@@ -96,7 +96,7 @@ fn find_two(items: &[u8], n: usize, want: u64) -> usize
     let mut at = 0;
     let mut i = 0;
     while i < n {
-        if encode::low2(plain::item2(items, at)) == want {
+        if encode::low2(plain::item(items, at, 2)) == want {
             return i;
         }
         at += 2;
@@ -112,7 +112,7 @@ fn find_four(items: &[u8], n: usize, want: u64) -> usize
     let mut at = 0;
     let mut i = 0;
     while i < n {
-        if encode::low4(plain::item4(items, at)) == want {
+        if encode::low4(plain::item(items, at, 4)) == want {
             return i;
         }
         at += 4;
@@ -128,7 +128,7 @@ fn find_eight(items: &[u8], n: usize, want: u64) -> usize
     let mut at = 0;
     let mut i = 0;
     while i < n {
-        if encode::low8(plain::item8(items, at)) == want {
+        if encode::low8(plain::item(items, at, 8)) == want {
             return i;
         }
         at += 8;

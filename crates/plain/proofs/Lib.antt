@@ -1,3 +1,4 @@
+pub mod Each
 pub mod Rules
 pub mod Cells
 pub mod Places

@@ -17,7 +17,7 @@ ghost use lib.ListN.{length, take, drop};
 ghost use lib.Seq.{sets};
 ghost use Rattle.encode.specs.Bytes.{number, inEight};
 ghost use Rattle.encode.specs.Kinds.{widthOf};
-ghost use Rattle.limits.specs.Limits.{MOST_ITEMS};
+ghost use Rattle.limits.specs.Limits.{MOST_ITEMS, isWidth};
 ghost use Rattle.plain.specs.Rows.{bytesIn};
 ghost use Rattle.plain.specs.Plain.{places, fixedAt, plainRow, plainNumber, leastBytes, endsGood, endAt, startAt, charAt};
 
@@ -32,28 +32,28 @@ pub fn u32_at(s: &[u8], at: usize) -> usize
 }
 
 // The item of one byte at `at`; of two; of four; of eight.
-pub fn item1(s: &[u8], at: usize) -> [u8; 8]
+fn item1(s: &[u8], at: usize) -> [u8; 8]
     requires { ⌜ at + 1 ≤ length (now s) ⌝ }
     ensures { λ r. ⌜ r ≡ inEight (take 1 (drop at (now (s .entry)))) ⌝ }
 {
     [s[at], 0, 0, 0, 0, 0, 0, 0]
 }
 
-pub fn item2(s: &[u8], at: usize) -> [u8; 8]
+fn item2(s: &[u8], at: usize) -> [u8; 8]
     requires { ⌜ at + 2 ≤ length (now s) ⌝ }
     ensures { λ r. ⌜ r ≡ inEight (take 2 (drop at (now (s .entry)))) ⌝ }
 {
     [s[at], s[at + 1], 0, 0, 0, 0, 0, 0]
 }
 
-pub fn item4(s: &[u8], at: usize) -> [u8; 8]
+fn item4(s: &[u8], at: usize) -> [u8; 8]
     requires { ⌜ at + 4 ≤ length (now s) ⌝ }
     ensures { λ r. ⌜ r ≡ inEight (take 4 (drop at (now (s .entry)))) ⌝ }
 {
     [s[at], s[at + 1], s[at + 2], s[at + 3], 0, 0, 0, 0]
 }
 
-pub fn item8(s: &[u8], at: usize) -> [u8; 8]
+fn item8(s: &[u8], at: usize) -> [u8; 8]
     requires { ⌜ at + 8 ≤ length (now s) ⌝ }
     ensures { λ r. ⌜ r ≡ inEight (take 8 (drop at (now (s .entry)))) ⌝ }
 {
@@ -69,6 +69,23 @@ pub fn item8(s: &[u8], at: usize) -> [u8; 8]
     ]
 }
 
+// The item at `at`, whole beside its width.
+pub fn item(s: &[u8], at: usize, width: usize) -> [u8; 8]
+    requires { ⌜ (isWidth width ≡ true) × (at + width ≤ length (now s)) ⌝ }
+    ensures { λ r. ⌜ r ≡ inEight (take width (drop at (now (s .entry)))) ⌝ }
+{
+    if width == 8 {
+        return item8(s, at);
+    }
+    if width == 4 {
+        return item4(s, at);
+    }
+    if width == 2 {
+        return item2(s, at);
+    }
+    item1(s, at)
+}
+
 // ---- fixed kinds
 
 // The value of item `i`.
@@ -78,12 +95,12 @@ pub fn value_at(p: Primitive, s: &[u8], i: usize) -> i64
 {
     let shape = p.shape();
     match shape {
-        Shape::Bool => BoolKind::decode(item1(s, i)),
-        Shape::Low2 => I16Kind::decode(item2(s, i * 2)),
-        Shape::Low4 => I32Kind::decode(item4(s, i * 4)),
-        Shape::Low8 => I64Kind::decode(item8(s, i * 8)),
-        Shape::High4 => DateKind::decode(item4(s, i * 4)),
-        Shape::High8 => TimestampKind::decode(item8(s, i * 8)),
+        Shape::Bool => BoolKind::decode(item(s, i, BoolKind::WIDTH)),
+        Shape::Low2 => I16Kind::decode(item(s, i * 2, I16Kind::WIDTH)),
+        Shape::Low4 => I32Kind::decode(item(s, i * 4, I32Kind::WIDTH)),
+        Shape::Low8 => I64Kind::decode(item(s, i * 8, I64Kind::WIDTH)),
+        Shape::High4 => DateKind::decode(item(s, i * 4, DateKind::WIDTH)),
+        Shape::High8 => TimestampKind::decode(item(s, i * 8, TimestampKind::WIDTH)),
     }
 }
 
@@ -96,7 +113,7 @@ fn bools(s: &[u8], from: usize, n: usize, out: &mut [i64])
     let mut at = from;
     let mut i = 0;
     while i < n {
-        out[i] = BoolKind::decode(item1(s, at));
+        out[i] = BoolKind::decode(item(s, at, BoolKind::WIDTH));
         at += 1;
         i += 1;
     }
@@ -109,7 +126,7 @@ fn i16s(s: &[u8], from: usize, n: usize, out: &mut [i64])
     let mut at = from * 2;
     let mut i = 0;
     while i < n {
-        out[i] = I16Kind::decode(item2(s, at));
+        out[i] = I16Kind::decode(item(s, at, I16Kind::WIDTH));
         at += 2;
         i += 1;
     }
@@ -122,7 +139,7 @@ fn i32s(s: &[u8], from: usize, n: usize, out: &mut [i64])
     let mut at = from * 4;
     let mut i = 0;
     while i < n {
-        out[i] = I32Kind::decode(item4(s, at));
+        out[i] = I32Kind::decode(item(s, at, I32Kind::WIDTH));
         at += 4;
         i += 1;
     }
@@ -135,7 +152,7 @@ fn i64s(s: &[u8], from: usize, n: usize, out: &mut [i64])
     let mut at = from * 8;
     let mut i = 0;
     while i < n {
-        out[i] = I64Kind::decode(item8(s, at));
+        out[i] = I64Kind::decode(item(s, at, I64Kind::WIDTH));
         at += 8;
         i += 1;
     }
@@ -148,7 +165,7 @@ fn dates(s: &[u8], from: usize, n: usize, out: &mut [i64])
     let mut at = from * 4;
     let mut i = 0;
     while i < n {
-        out[i] = DateKind::decode(item4(s, at));
+        out[i] = DateKind::decode(item(s, at, DateKind::WIDTH));
         at += 4;
         i += 1;
     }
@@ -161,7 +178,7 @@ fn timestamps(s: &[u8], from: usize, n: usize, out: &mut [i64])
     let mut at = from * 8;
     let mut i = 0;
     while i < n {
-        out[i] = TimestampKind::decode(item8(s, at));
+        out[i] = TimestampKind::decode(item(s, at, TimestampKind::WIDTH));
         at += 8;
         i += 1;
     }

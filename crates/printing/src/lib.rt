@@ -2,12 +2,16 @@
 // the other, so that a listing of any length needs the room of one row only.
 ghost use mathlib.Core.Path.{_≡_};
 ghost use lib.ListN.{length, take};
+ghost use Rattle.limits.specs.Limits.{MOST_INPUT};
+ghost use Rattle.block.specs.Reading.{remaining};
 ghost use Rattle.text.specs.Descriptor.{inputOpened};
-ghost use Rattle.printing.specs.Printing.{refusalOf};
+ghost use Rattle.printing.specs.Printing.{refusalOf, nextRow, rowsRefused, listed};
+use block::Given;
 use block::Opened;
 use block::Reader;
 use encode::FoundKind;
 use encode::Kind;
+use limits::refusal;
 use text::Made;
 
 // Lists the input on standard output. What comes back is 0 or the number that was printed behind `refused`.
@@ -16,15 +20,34 @@ pub fn print(input: &[u8]) -> u8
 {
     let answer = text::open(input);
     match answer {
-        Opened::Open(reader) => {
-            say_all(reader, text::block_of(input));
-            0
-        }
+        Opened::Open(reader) => print_rows(reader, text::block_of(input)),
         Opened::Refused(number) => {
-            say_line(b"refused ", number as u64);
+            say_refused(number);
             number
         }
     }
+}
+
+// Lists the rows that a reader has left: `rows`, at most 1,000 rows, `more` where more are left, `end`. A batch that is refused ends
+// the listing: `refused` and its number stand in the row's place, nothing follows, and the number comes back. No reader that was opened on
+// the block comes to that, as the proof of `print` shows; a record or a block that has changed since is told so, and never as rows.
+pub fn print_rows(reader: Reader, block: &[u8]) -> u8
+    ensures { λ r. ⌜ r ≡ listed reader (now (block .entry)) ⌝ }
+{
+    let left = reader.remaining();
+    if left.number != 0 {
+        say_refused(left.number);
+        return left.number;
+    }
+    let n = left.rows;
+    say_line(b"rows ", n as u64);
+    let number = say_rows(reader, area::least(n, 1000), block);
+    if number != 0 {
+        return number;
+    }
+    say_more(n);
+    say(b"end\n");
+    0
 }
 
 fn say(text: &[u8]) {
@@ -48,28 +71,31 @@ fn say_line(word: &[u8], n: u64) {
     say(b"\n");
 }
 
-// A sound block: `rows`, at most 1,000 rows, `more` where rows are left, `end`.
-fn say_all(reader: Reader, block: &[u8]) {
-    let n = reader.rows;
-    say_line(b"rows ", n as u64);
-    if n <= 1000 {
-        say_rows(reader, n, block);
-    } else {
-        say_rows(reader, 1000, block);
-        say_line(b"more ", (n - 1000) as u64);
-    }
-    say(b"end\n");
+fn say_refused(number: u8) {
+    say_line(b"refused ", number as u64);
 }
 
-// The first n rows. An opened block has a known kind.
-fn say_rows(reader: Reader, n: usize, block: &[u8]) {
+// The rows that are not printed.
+fn say_more(n: usize) {
+    if n <= 1000 {
+        return;
+    }
+    say_line(b"more ", (n - 1000) as u64);
+}
+
+// The next n rows of a reader, whose record contradicts nothing, and so names a kind.
+fn say_rows(reader: Reader, n: usize, block: &[u8]) -> u8
+    requires { ⌜ remaining reader .number ≡ 0 ⌝ }
+    ensures { λ r. ⌜ r ≡ rowsRefused n reader (now (block .entry)) MOST_INPUT ⌝ }
+{
     let found = encode::kind_of(reader.kind, reader.width);
     let FoundKind::Known(kind) = found else {
-        return;
+        say_refused(refusal::DISAGREE);
+        return refusal::DISAGREE;
     };
     let mut bytes = io::large_buffer();
     let mut text = text_room();
-    say_each(reader, kind, n, block, &mut bytes, &mut text);
+    say_each(reader, kind, n, block, &mut bytes, &mut text)
 }
 
 // Room for the longest text: two digits for each of fewer than 65,536 bytes.
@@ -79,14 +105,28 @@ fn text_room() -> [u8; 131072]
     [0; 131072]
 }
 
-// The next n rows.
-fn say_each(from: Reader, kind: Kind, n: usize, block: &[u8], bytes: &mut [u8], text: &mut [u8]) {
+// The next n rows, up to one that is refused.
+fn say_each(
+    from: Reader,
+    kind: Kind,
+    n: usize,
+    block: &[u8],
+    bytes: &mut [u8],
+    text: &mut [u8],
+) -> u8
+    ensures { λ r. ⌜ r ≡ rowsRefused n from (now (block .entry)) (length (now (bytes .entry))) ⌝ }
+{
     let mut reader = from;
     let mut i = 0;
     while i < n {
-        reader = say_next(reader, kind, i, block, bytes, text);
+        let answer = say_next(reader, kind, i, block, bytes, text);
+        if answer.number != 0 {
+            return answer.number;
+        }
+        reader = answer.reader;
         i += 1;
     }
+    0
 }
 
 // One row: a batch of it, then its line.
@@ -97,11 +137,17 @@ fn say_next(
     block: &[u8],
     bytes: &mut [u8],
     text: &mut [u8],
-) -> Reader {
+) -> Given
+    ensures { λ r. ⌜ r ≡ nextRow reader (now (block .entry)) (length (now (bytes .entry))) ⌝ }
+{
     let mut values = [0i64; 1];
     let mut flags = [0u8; 1];
     let mut ends = [0u32; 1];
     let answer = reader.batch(block, 1, &mut values, &mut flags, &mut ends, bytes);
+    if answer.number != 0 {
+        say_refused(answer.number);
+        return answer;
+    }
     let made = text::row_text(
         kind,
         flags[0] != 0,
@@ -110,7 +156,7 @@ fn say_next(
         text,
     );
     say_row(index, made, text);
-    answer.reader
+    answer
 }
 
 // The row's index and its text, which the room always holds.

@@ -43,15 +43,16 @@ fn opened(answer: Opened) -> Reader {
     }
 }
 
-// With another reader: shows the rows that it has left.
+// With another reader: shows the rows that it has left, and goes on with what came back.
 fn moved(from: Reading, at: usize, reader: Reader) -> Reading {
     let answer = reader.remaining();
     refused(answer.number);
     say(b" left");
     show_size(answer.rows);
+    let same = answer.reader;
     let mut next = from;
     next.at = at;
-    next.reader = reader;
+    next.reader = same;
     next
 }
 

@@ -24,11 +24,12 @@ use Rattle.format.specs.Opening.{headOf, placesOf, rowAt, rowsOf, columnNumber,
 use Rattle.block.specs.declared.Reader.{Reader}
 use Rattle.block.specs.declared.Opened.{Opened}
 use Rattle.block.specs.declared.Opened.the-variants.{Open}
-use Rattle.block.specs.Reading.{Areas, isBytes, short, headIn, readerAt, openedBy, opened, left, remainingIn, remaining}
+use Rattle.block.specs.Reading.{Areas, isBytes, short, headIn, readerAt, openedBy, opened, left, remainingIn, remaining, batched}
 use Rattle.block.specs.Calls.{Call, skip, batch, Answer, passed, gave, refused, answerTo, after, play, playOpened}
 use Rattle.reading_laws.specs.Calls.{due, moves, expected, handedOut, passedOver, unskipped, afterAll}
 use Rattle.reading_laws.proofs.RowsLeft.{Stands, start, not-wrong}
 use Rattle.reading_laws.proofs.OneCall.{map-drop, rowsAt, Told, one-call}
+use Rattle.reading_laws.proofs.RoomForOne.{Holds, row-given}
 
 -- ---- what is due, for any rows left
 module _ (k : Kind) (rs : List Row) where
@@ -159,9 +160,9 @@ module _ (k : Kind) (e : Encoding) (n : ℕ) (b : List ℕ) where
       let v = length-drop (moves d) is in
       record { rest = o .rest; stands = o .stands; total = rw (t .answer) (omega arith) }
 
-  remains : (r : Reader) (is : List ℕ) → Stands k e n b r is → remaining r ≡ left 0 (length is)
+  remains : (r : Reader) (is : List ℕ) → Stands k e n b r is → remaining r ≡ left 0 (length is) r
   unfolding remaining remainingIn
-  remains r is g = rw (g .column) (simp (not-wrong k e r (g .right)) (ap (left 0) (sym (g .count))))
+  remains r is g = rw (g .column) (simp (not-wrong k e r (g .right)) (ap (λ (m : ℕ). left 0 m r) (sym (g .count))))
 
 -- ---- from the opening on
 open-told : (m : ℕ) (s r : Reader) → openedBy m s ≡ Open r → (m ≡ 0) × (s ≡ r)
@@ -208,13 +209,13 @@ module _ (kind encoding width n : ℕ) (b : List ℕ) where
 
   -- ---- of the reader that calls reach
   module _ (r : Reader) (here : opened kind encoding width n b ≡ Open r) where
-    record Found : Type 0 where
-      k : Kind
-      e : Encoding
-      stands : Stands k e n b r (placesOf e n (headOf e b) b)
+    pub record Found : Type 0 where
+      pub k : Kind
+      pub e : Encoding
+      pub stands : Stands k e n b r (placesOf e n (headOf e b) b)
       all : length (placesOf e n (headOf e b) b) ≡ n
 
-    found : Found
+    pub found : Found
     unfolding openNumber
     found = go (columnOf kind encoding width) refl
       where
@@ -233,7 +234,7 @@ module _ (kind encoding width n : ℕ) (b : List ℕ) where
       there : Reached (found .k) (found .e) n b r (placesOf (found .e) n (headOf (found .e) b) b) cs
       there = reached (found .k) (found .e) n b cs r _ (found .stands)
 
-      remains-there : remaining (afterAll r b cs) ≡ left 0 (length (there .rest))
+      remains-there : remaining (afterAll r b cs) ≡ left 0 (length (there .rest)) (afterAll r b cs)
       remains-there = remains (found .k) (found .e) n b (afterAll r b cs) (there .rest) (there .stands)
 
       told-there : (c : Call) → Told (found .k) (found .e) n b (afterAll r b cs) (there .rest) c
@@ -256,6 +257,10 @@ module _ (kind encoding width n : ℕ) (b : List ℕ) where
           let t = told-there c in
           let d = sym (t .answer) ∙ q in
           (subst (λ (a : Answer). Front (found .k) rs a) d (due-front (found .k) rs c), t .stays x d)
+
+      -- After any calls, a batch of one row that is lent a slot of each sort and as many bytes as the block has is never refused.
+      pub one-row-is-given : (a : Areas) → Holds b a → batched (afterAll r b cs) b 1 a .answer .number ≡ 0
+      one-row-is-given a h = row-given (there .stands) a h .number
 
       -- After any calls, a batch that is not refused gives no rows only at the end.
       pub none-only-at-the-end : (size : ℕ) (a : Areas) → answerTo (afterAll r b cs) b (batch size a) ≡ gave [] → remaining (afterAll r b cs) .rows ≡ 0

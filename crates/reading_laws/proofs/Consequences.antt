@@ -31,6 +31,8 @@ use Rattle.block.specs.declared.Opened.the-variants.{Open, Refused}
 use Rattle.block.specs.Reading.{openedBy, opened, wrong, nextSteps, moved}
 use Rattle.block.specs.Reading.{Areas, areas, Batch, isBytes, short, filledIn, givenBytes, refusedBatch, give, batchOf, batchedIn, batched}
 use Rattle.block.specs.Calls.{Call, skip, batch, Answer, gave, refused, handed, columnIn, batchAnswer, answerTo, after, play, playOpened}
+use Rattle.soundness_laws.specs.Sound.{Sound}
+use Rattle.soundness_laws.proofs.Opens.{sound-opens, opens-sound}
 use Rattle.reading_laws.specs.Room.{SameRoom, SameBatch, SameCall, SameCalls}
 use Rattle.reading_laws.proofs.HandedRows.{read-back}
 
@@ -58,12 +60,12 @@ module _ (kind encoding width n : ℕ) (b : List ℕ) (unsound : openNumber kind
   unfolding playOpened
   unsound-never-read cs = rw unsound-refused
 
--- A block is opened exactly when it is sound.
-pub opened-exactly-when-sound :
+-- There is a reader exactly when opening's number is 0.
+pub opened-by-number :
     (kind encoding width n : ℕ) (b : List ℕ)
     → ((r : Reader) × (opened kind encoding width n b ≡ Open r)) ↔ (openNumber kind encoding width n b ≡ 0)
 unfolding opened openedBy
-opened-exactly-when-sound kind encoding width n b = (there (openNumber kind encoding width n b) _, back (openNumber kind encoding width n b) _)
+opened-by-number kind encoding width n b = (there (openNumber kind encoding width n b) _, back (openNumber kind encoding width n b) _)
   where
     there : (e : ℕ) (s : Reader) → ((r : Reader) × (openedBy e s ≡ Open r)) → e ≡ 0
     there zero s o = refl
@@ -71,6 +73,13 @@ opened-exactly-when-sound kind encoding width n b = (there (openNumber kind enco
 
     back : (e : ℕ) (s : Reader) → e ≡ 0 → (r : Reader) × (openedBy e s ≡ Open r)
     back e s h = (s, ap (λ (x : ℕ). openedBy x s) h)
+
+-- A block is opened exactly when it is sound: when it consists of the parts that its encoding names, and these keep their rules.
+pub opened-exactly-when-sound :
+    (kind encoding width n : ℕ) (b : List ℕ) → ((r : Reader) × (opened kind encoding width n b ≡ Open r)) ↔ Sound kind encoding width n b
+opened-exactly-when-sound kind encoding width n b =
+    let o = opened-by-number kind encoding width n b in
+    (λ h. opens-sound kind encoding width n b (o .0 h), λ h. o .1 (sound-opens kind encoding width n b h))
 
 -- ---- answers depend on the block alone
 none-handed : (c : Column) (a : Areas) → handed c 0 a ≡ []

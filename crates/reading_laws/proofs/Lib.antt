@@ -2,6 +2,7 @@ pub mod Samples
 pub mod HandedRows
 pub mod RowsLeft
 pub mod OneCall
+pub mod RoomForOne
 pub mod Calls
 pub mod Refusing
 pub mod Consequences

@@ -1,4 +1,5 @@
--- A skip or a batch that is refused gives back the reader that it was given, and writes nothing: on every record and every block. Assumes nothing.
+-- A skip or a batch that is refused gives back the reader that it was given, and writes nothing; asking what remains gives it back, refused or not: on every
+-- record and every block. Assumes nothing.
 use Prim.Native.Nat.{ℕ, _-_, min}
 use mathlib.Core.Bool.{Bool, true, false, cond, not, _||_}
 use mathlib.Core.List.{List, map}
@@ -19,8 +20,23 @@ use Rattle.format.specs.Opening.{rowAt}
 use Rattle.anatomy.specs.Tests.{rowGood}
 use Rattle.block.specs.declared.Reader.{Reader}
 use Rattle.block.specs.declared.Skipped.{Skipped}
-use Rattle.block.specs.Reading.{wrong, nextSteps, moved, skipTo, skipOver, skippedIn, skipped}
+use Rattle.block.specs.Reading.{wrong, nextSteps, moved, left, remainingIn, remaining, skipTo, skipOver, skippedIn, skipped}
 use Rattle.block.specs.Reading.{Areas, Batch, isBytes, short, filledIn, givenBytes, refusedBatch, give, batchOf, batchedIn, batched}
+
+-- ---- remaining
+module _ (r : Reader) where
+  remaining-by : (x : Column) → remainingIn x r .reader ≡ r
+  unfolding remainingIn
+  remaining-by Unknown = refl
+  remaining-by (Of k e) = go (wrong k e r)
+    where
+      go : (b : Bool) → cond b (left DISAGREE 0 r) (left 0 (r .rows - r .place) r) .reader ≡ r
+      go true = refl
+      go false = refl
+
+  pub remaining-hands-back : remaining r .reader ≡ r
+  unfolding remaining
+  remaining-hands-back = remaining-by (columnOf (r .kind) (r .encoding) (r .width))
 
 module _ (r : Reader) (b : List ℕ) where
   -- ---- skip

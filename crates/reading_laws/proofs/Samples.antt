@@ -33,7 +33,7 @@ unfolding Varint.more Varint.countWithin Varint.in32Bits Varint.countOf Varint.c
     Blocks.columnOf Blocks.blockOf Blocks.cut Blocks.filled Blocks.storedRow Blocks.storedForm Opening.rulesOf Opening.mostRows Opening.columnNumber
     Opening.openNumber Opening.headOf Opening.rowAt Opening.countsIn Opening.placesOf Opening.rowsOf Sizes.runRows Sizes.keysOf Sizes.plainSize
     Sizes.nullableSize Sizes.runLengthSize Sizes.estimateOf Sizes.nextSize Sizes.fullWith Sizes.plainFull Sizes.nullableFull Sizes.keyTarget
-    Sizes.shouldFinish Sizes.storedItems Sizes.storedEntries Sizes.withinLimits Sizes.acceptedAfter Sizes.accepted Reading.headIn Reading.openedBy
+    Sizes.shouldFinish Sizes.storedItems Sizes.storedEntries Sizes.withinLimits Sizes.allFit Sizes.accepted Reading.headIn Reading.openedBy
     Reading.opened Tests.noRuns Tests.runsOutside Tests.partOutside Tests.runsWrong Tests.headWrong Reading.wrong Reading.nextSteps Reading.remainingIn
     Reading.remaining Reading.skipOver Reading.skippedIn Reading.skipped Tests.rowGood Reading.isBytes Reading.short Reading.filledIn Reading.givenBytes
     Reading.give Reading.batchOf Reading.batchedIn Reading.batched Calls.startIn Calls.handedRow Calls.handed Calls.skipAnswer Calls.batchAnswer

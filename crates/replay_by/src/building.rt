@@ -145,16 +145,18 @@ fn built(reading: Reading, len: usize) -> Reading {
 }
 
 // Both questions once more, for a null.
-fn ask_last(builder: Builder) {
+fn ask_last(builder: Builder) -> Builder {
     say(b"end");
-    trial::ask(builder, false, 0);
+    trial::ask(builder, false, 0)
 }
 
 fn finished(state: State, answer: Finished, room: &[u8]) -> State {
     refused(answer.number);
     say(b"\nblock ");
     show_bytes(first(room, answer.len));
+    let same = answer.builder;
     let mut next = state;
+    next.builder = same;
     next.reading = built(state.reading, answer.len);
     next
 }
@@ -169,8 +171,7 @@ pub fn finish(
     lens: &[u8],
     room: &mut [u8],
 ) -> State {
-    let builder = state.builder;
-    ask_last(builder);
+    let builder = ask_last(state.builder);
     let answer = builder.finish(items, ends, flags, counts, keys, lens, room);
     finished(state, answer, room)
 }

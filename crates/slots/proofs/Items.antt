@@ -12,12 +12,16 @@ use lib.Seq.{sets, take-length}
 use mir.Facts.{toZ-ofZ}
 use mir.Syntax.{w64}
 use mir.Val.{SFits, ofZ, toZ}
+use Rattle.limits.specs.Limits.{isWidth}
 use Rattle.encode.specs.Bytes.{inEight}
-use Rattle.encode.specs.Kinds.{widthOf, defaultValue, encoded, takes}
+use Rattle.encode.specs.Kinds.{shapeOf, widthOf, defaultValue, encoded, takes}
 use Rattle.encode.specs.declared.Primitive.{Primitive}
 use Rattle.encode.specs.declared.Kind.{Kind}
 use Rattle.encode.specs.declared.Kind.the-variants.{Fixed, Char, Blob}
+use Rattle.encode.specs.declared.Shape.{Shape}
+use Rattle.encode.specs.declared.Shape.the-variants.{Bool as BoolShape, Low2, Low4, Low8, High4, High8}
 use Rattle.encode.proofs.RoundTrip.{item-length, item-whole}
+use Rattle.encode.proofs.Shapes.{wideAs}
 use Rattle.area.specs.Area.{over}
 use Rattle.area.proofs.Laws.{over-sets, over-none, sets-append}
 use Rattle.plain.specs.Rows.{Row, null, int, bytes, valueOf, rowOf, intIn, bytesIn, fits}
@@ -73,13 +77,24 @@ module _ (k : Kind) (present : Bool) (v : ℤ) (bs : List ℕ) where
   unfolding itemOf rowOf valueOf
   blob-long e h = rw e h
 
--- ---- the first bytes of an encoded item
-module _ {w n : ℕ} (e : w ≡ n) where
-  pub wide-room : (at m : ℕ) → at + w ≤ m → at + n ≤ m
-  wide-room at m h = rw e at h
+-- ---- the width beside an encoded item
+width-told : (s : Shape) → isWidth (wideAs s) ≡ true
+width-told BoolShape = refl
+width-told Low2 = refl
+width-told Low4 = refl
+width-told Low8 = refl
+width-told High4 = refl
+width-told High8 = refl
 
-  pub wide-put : (d item : List ℕ) (at : ℕ) {d′ : List ℕ} → d′ ≡ sets d at (take n item) → d′ ≡ sets d at (take w item)
-  wide-put d item at h = rw e h
+module _ (p : Primitive) {w : ℕ} (e : w ≡ widthOf p) where
+  pub width-given : isWidth w ≡ true
+  width-given = rw e (width-told (shapeOf p))
+
+  pub wide-room : (at m : ℕ) → at + widthOf p ≤ m → at + w ≤ m
+  wide-room at m h = rw e h
+
+  pub wide-put : (d item : List ℕ) (at : ℕ) {d′ : List ℕ} → d′ ≡ sets d at (take w item) → d′ ≡ sets d at (take (widthOf p) item)
+  wide-put d item at h = rw e at h
 
 -- ---- the item as it is written
 module _ (d : List ℕ) (at : ℕ) where

@@ -1,14 +1,12 @@
 // What an append writes into lent memory: an item with its end, its length and its flag, and the slots of its run.
 use encode::Kind;
 use encode::Primitive;
-use encode::Shape;
 ghost use mathlib.Core.Path.{_≡_};
 ghost use mathlib.Core.Bool.{true, false, cond, not, _&&_};
 ghost use Prim.Native.Nat.{ℕ, _+_, _/_, _<_, _≤_, _^_};
-ghost use lib.ListN.{length, take, set};
+ghost use lib.ListN.{length, set};
 ghost use lib.Seq.{sets};
 ghost use Rattle.area.specs.Area.{over};
-ghost use Rattle.encode.specs.Kinds.{widthOf};
 ghost use Rattle.encode.specs.declared.Kind.the-variants.{Fixed, Char, Blob};
 ghost use Rattle.limits.specs.Limits.{MOST_COUNT};
 ghost use Rattle.plain.specs.Rows.{null, int, bytes, rowOf, fits, bytesIn};
@@ -56,30 +54,16 @@ fn given_len(present: bool, item: &[u8]) -> usize
 
 // ---- its item
 
-// As many bytes of an encoded item as the kind has.
-fn put_fixed(p: Primitive, item: [u8; 8], items: &mut [u8], at: usize)
-    requires { ⌜ at + widthOf p ≤ length (now items) ⌝ }
-    ensures { λ _. ⌜ now (items .exit) ≡ sets (now (items .entry)) at (take (widthOf p) item) ⌝ }
-{
-    let shape = p.shape();
-    match shape {
-        Shape::Bool => area::put1(item, items, at),
-        Shape::Low2 => area::put2(item, items, at),
-        Shape::Low4 | Shape::High4 => area::put4(item, items, at),
-        Shape::Low8 | Shape::High8 => area::put8(item, items, at),
-    }
-}
-
 // An integer of a fixed kind; of a null, the default.
 fn put_value(p: Primitive, present: bool, value: i64, items: &mut [u8], at: usize)
     requires { ⌜ at + length (itemOf (Fixed p) (cond present (int value) null)) ≤ length (now items) ⌝ }
     ensures { λ _. ⌜ now (items .exit) ≡ over (now (items .entry)) at (itemOf (Fixed p) (cond present (int value) null)) ⌝ }
 {
     if present {
-        put_fixed(p, p.encode(value), items, at);
+        area::put(p.encode(value), p.width(), items, at);
         return;
     }
-    put_fixed(p, p.encode(p.default_value()), items, at);
+    area::put(p.encode(p.default_value()), p.width(), items, at);
 }
 
 // The bytes of a row, if it is not null, and zeros up to the width.

@@ -22,20 +22,23 @@ pub fn show_bool(b: bool) {
     }
 }
 
-// Whether to finish before a row, and the estimated size.
-pub fn ask(builder: Builder, present: bool, len: usize) {
+// Whether to finish before a row, and the estimated size; the record that came back.
+pub fn ask(builder: Builder, present: bool, len: usize) -> Builder {
     let asked = builder.should_finish(present, len);
     refused(asked.number);
     show_bool(asked.full);
-    let estimated = builder.estimate();
+    let same = asked.builder;
+    let estimated = same.estimate();
     refused(estimated.number);
     show_size(estimated.size);
+    estimated.builder
 }
 
-fn ask_before(rows: Rows, builder: Builder, present: bool) {
+fn ask_before(rows: Rows, builder: Builder, present: bool) -> Builder {
     if rows.asks {
-        ask(builder, present, rows.len);
+        return ask(builder, present, rows.len);
     }
+    builder
 }
 
 fn is_present(rows: Rows, turn: Turn) -> bool {
@@ -116,9 +119,8 @@ fn append_row(
     text: &[u8],
 ) -> Turn {
     let present = is_present(rows, turn);
-    ask_before(rows, turn.builder, present);
+    let builder = ask_before(rows, turn.builder, present);
     let own = own_of(rows, turn.value);
-    let builder = turn.builder;
     let answer = builder.append(
         lent_bytes(items, lent.items),
         lent_words(ends, lent.ends),

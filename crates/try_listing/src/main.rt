@@ -2,6 +2,11 @@
 // inputs, and by a reading of its own of document 01 the answers (the file stdout).
 //
 // An input is its length, four bytes, how many of its bytes follow, two bytes, both lowest first, and these bytes. The rest of it is 0.
+// With 2^31 added to its length, it is opened, and changed before its rows are listed: five bytes more are a place in its block, how many
+// rows are passed over first, two bytes each, and the byte that then comes to that place. Of an input that isn't opened, the rows are listed
+// by the record that stands beside a refused opening.
+use block::Opened;
+use block::Reader;
 use script::byte;
 use script::first;
 use script::past;
@@ -48,14 +53,50 @@ fn load(s: &[u8], at: usize, n: usize, len: usize, room: &mut [u8]) {
     }
 }
 
+fn passed(reader: Reader, block: &[u8], rows: usize) -> Reader {
+    let answer = reader.skip(block, rows);
+    answer.reader
+}
+
+// The reader of an input, past some rows.
+fn reader_of(input: &[u8], rows: usize) -> Reader {
+    let answer = text::open(input);
+    match answer {
+        Opened::Open(reader) => passed(reader, text::block_of(input), rows),
+        Opened::Refused(_) => block::no_reader(),
+    }
+}
+
+// Sets a byte, if it is there.
+fn put(room: &mut [u8], at: usize, value: u8) {
+    if at < room.len() {
+        room[at] = value;
+    }
+}
+
+// Lists the rows of the input in the room, which is changed after it is opened. What comes back is the place after the change.
+fn list_changed(s: &[u8], at: usize, len: usize, room: &mut [u8]) -> usize {
+    let place = two(s, at);
+    let rows = two(s, past(at, 2));
+    let value = byte(s, past(at, 4));
+    let reader = reader_of(first(room, len), rows);
+    put(room, past(place, 8), value);
+    printing::print_rows(reader, text::block_of(first(room, len)));
+    past(at, 5)
+}
+
 // Lists the input at a place. What comes back is the place after it.
 fn list(s: &[u8], at: usize, room: &mut [u8]) -> usize {
-    let len = four(s, at);
+    let told = four(s, at);
     let n = two(s, past(at, 4));
     let from = past(at, 6);
+    let len = told % 0x8000_0000;
     load(s, from, n, len, room);
-    printing::print(first(room, len));
-    past(from, n)
+    if told < 0x8000_0000 {
+        printing::print(first(room, len));
+        return past(from, n);
+    }
+    list_changed(s, past(from, n), len, room)
 }
 
 // Each input takes a byte at least, so there are no more of them than bytes.

@@ -201,7 +201,12 @@ fn remaining(state: State) -> State {
     say(b"left");
     show_byte(answer.number);
     show_size(answer.rows);
-    state
+    let same = answer.reader;
+    State {
+        at: state.at,
+        len: state.len,
+        reader: same,
+    }
 }
 
 fn batch(s: &[u8], state: State, block: &[u8]) -> State {

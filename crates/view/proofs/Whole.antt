@@ -1,4 +1,4 @@
--- The promises of opening, skip and batch on a view say each part of the answer: two answers that satisfy one coincide. Assumes nothing.
+-- The promises of opening, skip, batch and remaining on a view say each part of the answer: two answers that satisfy one coincide. Assumes nothing.
 use Prim.Native.Nat.{ℕ}
 use mathlib.Core.List.{List}
 use mathlib.Core.Path.{_≡_, sym, _∙_}
@@ -7,6 +7,7 @@ use Rattle.block.specs.declared.Reader.{Reader}
 use Rattle.view.specs.declared.View.{View}
 use Rattle.view.specs.declared.Viewed.{Viewed}
 use Rattle.view.specs.declared.Taken.{Taken}
+use Rattle.view.specs.declared.Unread.{Unread}
 
 module _ (n : ℕ) (b : RefT (List ℕ)) (x : Reader) where
   abbrev Said : Viewed → Type 0
@@ -17,6 +18,16 @@ module _ (n : ℕ) (b : RefT (List ℕ)) (x : Reader) where
 
   pub one-viewed : (r s : Viewed) → Said r → Said s → r ≡ s
   one-viewed r s p q = whole r p ∙ sym (whole s q)
+
+  module _ (m : ℕ) where
+    abbrev Told : Unread → Type 0
+    Told r = (r .number ≡ n) × (r .rows ≡ m) × (r .view .block ≡ b) × (r .view .reader ≡ x)
+
+    whole-unread : (r : Unread) → Told r → r ≡ record { number = n; rows = m; view = record { block = b; reader = x } }
+    whole-unread r p = λ i. record { number = p .0 i; rows = p .1 i; view = record { block = p .2 i; reader = p .3 i } }
+
+    pub one-unread : (r s : Unread) → Told r → Told s → r ≡ s
+    one-unread r s p q = whole-unread r p ∙ sym (whole-unread s q)
 
   module _ (m k : ℕ) where
     abbrev Gave : Taken → Type 0

@@ -1,6 +1,5 @@
 // A reader that keeps the lent block it was opened on: thin functions over those of `block`.
 use block::Given;
-use block::Left;
 use block::Reader;
 ghost use mathlib.Core.Path.{_≡_};
 ghost use Rattle.block.specs.Reading.{Areas, Batch, areas, opened, skipped, batched, remaining, openingOf};
@@ -25,6 +24,13 @@ pub struct Taken<'a> {
     pub number: u8,
     pub rows: usize,
     pub bytes: usize,
+    pub view: View<'a>,
+}
+
+// What asking for the remaining rows answers: the view comes back as it was.
+pub struct Unread<'a> {
+    pub number: u8,
+    pub rows: usize,
     pub view: View<'a>,
 }
 
@@ -106,10 +112,19 @@ impl<'a> View<'a> {
     }
 
     // How many rows are left.
-    pub fn remaining(self) -> Left
-        ensures { λ r. ⌜ r ≡ remaining (self .entry .reader) ⌝ }
+    pub fn remaining(self) -> Unread<'a>
+        ensures { λ r. ⌜ (r .number ≡ remaining (self .entry .reader) .number)
+            × (r .rows ≡ remaining (self .entry .reader) .rows)
+            × (r .view .block ≡ self .entry .block)
+            × (r .view .reader ≡ remaining (self .entry .reader) .reader) ⌝ }
     {
-        self.reader.remaining()
+        let answer = self.reader.remaining();
+        let block = self.block;
+        let reader = answer.reader;
+        let view = View { block, reader };
+        let number = answer.number;
+        let rows = answer.rows;
+        Unread { number, rows, view }
     }
 }
 

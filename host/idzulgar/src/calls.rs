@@ -7,7 +7,8 @@
 //!
 //! The library asks two things of its caller that it can't test: each pointer goes with the number of items it points to, and
 //! what it writes overlaps nothing else that it was lent. A slice is just such a pointer with its number of items, and two
-//! `&mut` slices never overlap each other or a `&` slice. It keeps no pointer, allocates nothing and has no state of its own. The
+//! `&mut` slices never overlap each other or a `&` slice. The pointer of an empty slice or `Vec` is not null and points to nothing;
+//! the library follows no pointer of length 0, null or not. It keeps no pointer, allocates nothing and has no state of its own. The
 //! records below have the layout of include/idzulgar.h, all of plain numbers, so any bits in them are a value.
 
 /// A reader's record: what opening was given and found at the block's head, and where reading stands. Any numbers can stand
@@ -31,7 +32,7 @@ pub struct ReaderRecord {
     pub taken: usize,
 }
 
-/// What opening answers. Beside a refusal stands a record that every call refuses as 9.
+/// What opening answers. Beside a refusal stands a record that every call refuses as 9, but for a batch of 0 rows, which is 6.
 #[repr(C)]
 #[derive(Clone, Copy, Debug, PartialEq, Eq)]
 #[allow(missing_docs)]
@@ -60,13 +61,14 @@ pub struct Skipped {
     pub reader: ReaderRecord,
 }
 
-/// What asking for the remaining rows answers.
+/// What asking for the remaining rows answers. The record is the one that was given.
 #[repr(C)]
 #[derive(Clone, Copy, Debug, PartialEq, Eq)]
 #[allow(missing_docs)]
 pub struct Left {
     pub number: u8,
     pub rows: usize,
+    pub reader: ReaderRecord,
 }
 
 /// A builder's record: what creation was given, and what was appended so far. Any numbers can stand here; a record that
@@ -106,31 +108,34 @@ pub struct Appended {
     pub builder: BuilderRecord,
 }
 
-/// What finishing answers: the bytes written.
+/// What finishing answers: the bytes written. The record is the one that was given.
 #[repr(C)]
 #[derive(Clone, Copy, Debug, PartialEq, Eq)]
 #[allow(missing_docs)]
 pub struct Finished {
     pub number: u8,
     pub len: usize,
+    pub builder: BuilderRecord,
 }
 
-/// What asking for the estimated size answers.
+/// What asking for the estimated size answers. The record is the one that was given.
 #[repr(C)]
 #[derive(Clone, Copy, Debug, PartialEq, Eq)]
 #[allow(missing_docs)]
 pub struct Estimated {
     pub number: u8,
     pub size: usize,
+    pub builder: BuilderRecord,
 }
 
-/// What asking whether to finish answers.
+/// What asking whether to finish answers. The record is the one that was given.
 #[repr(C)]
 #[derive(Clone, Copy, Debug, PartialEq, Eq)]
 #[allow(missing_docs)]
 pub struct Asked {
     pub number: u8,
     pub full: bool,
+    pub builder: BuilderRecord,
 }
 
 /// The six areas of a builder: items (fixed and char items at their width, blob data), the blob items' ends, flags (a bit an

@@ -144,7 +144,9 @@ fn forged_records_and_changed_areas_get_an_answer_and_a_refusal_writes_nothing()
         let finished = calls::finish(answer.builder, &items, &ends, &flags, &counts, &keys, &lens, &mut out);
         assert!([0, 4, 9].contains(&finished.number));
         assert!(out[finished.len..].iter().all(|byte| *byte == 0x55));
-        assert!([0, 9].contains(&calls::estimate(record).number) && [0, 9].contains(&calls::should_finish(record, true, 1).number));
+        let (estimated, asked) = (calls::estimate(record), calls::should_finish(record, true, 1));
+        assert!([0, 9].contains(&estimated.number) && [0, 9].contains(&asked.number));
+        assert_eq!((finished.builder, estimated.builder, asked.builder), (answer.builder, record, record));
     }
     for number in [0, 2, 4, 9] {
         assert!(seen[number] > 100, "{number} was seen {} times", seen[number]);

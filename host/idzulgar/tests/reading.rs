@@ -187,6 +187,7 @@ fn forged_records_get_an_answer() {
         let given = batch(reader, &block, 8, &mut lent);
         let left = calls::remaining(reader);
         assert!([0, 4, 9].contains(&given.number) && [0, 9].contains(&left.number));
+        assert_eq!(left.reader, reader);
         answered += (given.number == 0) as u32;
     }
     assert!(answered > 100);
@@ -199,6 +200,7 @@ fn a_refused_opening_leaves_a_record_that_every_call_refuses() {
     assert_eq!(calls::remaining(answer.reader).number, 9);
     assert_eq!(calls::skip(answer.reader, &[], 0).number, 9);
     assert_eq!(batch(answer.reader, &[], 1, &mut areas(1, 1)).number, 9);
+    assert_eq!(batch(answer.reader, &[], 0, &mut areas(1, 1)).number, 6);
     assert!(Reader::from_parts(&[0u8][..], answer.reader).is_err());
 }
 

@@ -19,17 +19,17 @@ loop-holds c = copying-start _ _ _ _ _ (c .before .before .pre .1)
 sub-loop : tie.Need-sub-loop Inv-loop μ-loop
 sub-loop c = search needs
 
-add-item8 : tie.Need-add-item8 Inv-loop μ-loop
-add-item8 c = search needs
+add-item : tie.Need-add-item Inv-loop μ-loop
+add-item c = search needs
 
-item8-requires : tie.Need-item8-requires Inv-loop μ-loop
-item8-requires c κs = search needs
+item-requires : tie.Need-item-requires Inv-loop μ-loop
+item-requires c κs = search needs
 
-add-put8 : tie.Need-add-put8 Inv-loop μ-loop
-add-put8 c = search needs
+add-put : tie.Need-add-put Inv-loop μ-loop
+add-put c = search needs
 
-put8-requires : tie.Need-put8-requires Inv-loop μ-loop
-put8-requires c κs = search needs
+put-requires : tie.Need-put-requires Inv-loop μ-loop
+put-requires c κs = search needs
 
 add-i : tie.Need-add-i Inv-loop μ-loop
 add-i c = search needs
@@ -41,7 +41,7 @@ loop-again : tie.Need-loop-again Inv-loop μ-loop
 loop-again c =
     let i = c .before .before .before .before in
     let h = i .before .before in
-    copying-word (h .loop .inv) (i .before .loop-test .taken) (h .before .before .before .pre .0) (i .item8 .ensures) (c .before .before .put8 .ensures)
+    copying-word (h .loop .inv) (i .before .loop-test .taken) (h .before .before .before .pre .0) (i .item .ensures) (c .before .before .put .ensures)
 
 add-copy : tie.Need-add-copy Inv-loop μ-loop
 add-copy c = search needs
@@ -69,10 +69,10 @@ copy-by-eight-spec =
     μ-loop
     loop-holds
     sub-loop
-    add-item8
-    item8-requires
-    add-put8
-    put8-requires
+    add-item
+    item-requires
+    add-put
+    put-requires
     add-i
     loop-less
     loop-again

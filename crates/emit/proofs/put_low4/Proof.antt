@@ -11,8 +11,8 @@ use Rattle.emit.proofs.put_low4.Tie as tie
 low-first4-requires : tie.Need-low-first4-requires
 low-first4-requires c κs = search needs
 
-put4-requires : tie.Need-put4-requires
-put4-requires c κs = search needs
+put-requires : tie.Need-put-requires
+put-requires c κs = search needs
 
 add-result : tie.Need-add-result
 add-result c = search needs
@@ -23,8 +23,8 @@ same-length c = search needs
 returns : tie.Need-returns
 returns c =
     let a = c .before .before .before .before .before .before .args in
-    (refl, c .before .before .put4 .ensures ∙ ap (λ (item : List ℕ). sets (a .out .now) (a .at) (take 4 item)) (c .before .before .before .before .low-first4 .ensures))
+    (refl, c .before .before .put .ensures ∙ ap (λ (item : List ℕ). sets (a .out .now) (a .at) (take 4 item)) (c .before .before .before .before .low-first4 .ensures))
 
 pub put-low4-spec : {M : Type 1} → statement M
 put-low4-spec =
-    tie.close (tie.spec low-first4-requires put4-requires add-result same-length returns)
+    tie.close (tie.spec low-first4-requires put-requires add-result same-length returns)

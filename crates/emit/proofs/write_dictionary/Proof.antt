@@ -3,7 +3,7 @@ use borrow.Author.Needs.{needs}
 use native.Mathlib.Omega.{arith}
 use Prim.Native.Nat.{ℕ, _+_, _-_, _≤_}
 use mathlib.Core.List.{List}
-use mathlib.Core.Path.{_≡_, ap, _∙_}
+use mathlib.Core.Path.{_≡_, refl, ap, _∙_}
 use lib.ListN.{length, take}
 use lib.Seq.{sets}
 use Rattle.encode.specs.Bytes.{big, high-first}
@@ -15,10 +15,10 @@ use Rattle.emit.proofs.write_dictionary.Statement.{statement}
 use Rattle.emit.proofs.write_dictionary.Tie as tie
 
 -- ---- the places, from the last to the first: the head's two numbers are written, the key block is written, the start
-abbrev length-put : tie.After-put4 → tie.After-put8
+abbrev length-put : tie.After-put2 → tie.After-put
 length-put c = c .before .before .before .before .before
 
-abbrev keys-put : tie.After-put8 → tie.After-write-key-block
+abbrev keys-put : tie.After-put → tie.After-write-key-block
 keys-put c = c .before .before .before .before .before
 
 abbrev start : tie.After-write-key-block → tie.Start
@@ -45,14 +45,14 @@ sub-high-first c = search needs
 high-first-requires : tie.Need-high-first-requires
 high-first-requires c κs = search needs
 
-put8-requires : tie.Need-put8-requires
-put8-requires c κs = let r = room (start (c .before .before .before .before)) in omega arith
+put-requires : tie.Need-put-requires
+put-requires c κs = let r = room (start (c .before .before .before .before)) in (refl, omega arith)
 
 high-first4-requires : tie.Need-high-first4-requires
 high-first4-requires c κs = search needs
 
-put4-requires : tie.Need-put4-requires
-put4-requires c κs = let r = room (start (keys-put (c .before .before .before .before))) in omega arith
+put-requires-2 : tie.Need-put-requires-2
+put-requires-2 c κs = let r = room (start (keys-put (c .before .before .before .before))) in (refl, omega arith)
 
 write-plain-requires : tie.Need-write-plain-requires
 write-plain-requires c κs =
@@ -81,9 +81,9 @@ returns c =
     (length-bytes high-first 8 (length keys))
     (length-bytes high-first 4 (a .entries))
     (w .write-key-block .ensures)
-    (q .put8 .ensures
+    (q .put .ensures
     ∙ ap (λ (item : List ℕ). sets (w .write-key-block .last .1 .1 .1 .1 .0) 0 (take 8 item)) (q .before .before .high-first .ensures ∙ ap (big 8) m))
-    (p .put4 .ensures ∙ ap (λ (item : List ℕ). sets (q .put8 .last .1 .0) 8 (take 4 item)) (p .before .before .high-first4 .ensures))
+    (p .put2 .ensures ∙ ap (λ (item : List ℕ). sets (q .put .last .1 .1 .0) 8 (take 4 item)) (p .before .before .high-first4 .ensures))
     (c .before .before .write-plain .ensures)
 
 pub write-dictionary-spec : {M : Type 1} → statement M
@@ -93,9 +93,9 @@ write-dictionary-spec =
     write-key-block-requires
     sub-high-first
     high-first-requires
-    put8-requires
+    put-requires
     high-first4-requires
-    put4-requires
+    put-requires-2
     write-plain-requires
     same-length
     returns)

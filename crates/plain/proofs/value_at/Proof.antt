@@ -30,29 +30,29 @@ module _ (c : tie.After-shape) (q : Primitive) (e : c .shape .result ≡ shapeOf
       let a = c .before .before .args in
       value-found (a .p) q (sym (c .shape .ensures) ∙ e) (a .s .now) (a .i) at h (c .before .before .pre .1)
 
-item1-requires : tie.Need-item1-requires
-item1-requires c κs = there (c .before .before) Boolean (c .enum-told .given .1) _ (omega arith)
+item-requires : tie.Need-item-requires
+item-requires c κs = (refl, there (c .before .before) Boolean (c .enum-told .given .1) _ (omega arith))
 
-item2-requires : tie.Need-item2-requires
-item2-requires c κs = there (c .before .before) I16 (c .enum-told2 .given .1) _ refl
+item-requires-2 : tie.Need-item-requires-2
+item-requires-2 c κs = (refl, there (c .before .before) I16 (c .enum-told2 .given .1) _ refl)
 
-item4-requires : tie.Need-item4-requires
-item4-requires c κs = there (c .before .before) I32 (c .enum-told3 .given .1) _ refl
+item-requires-3 : tie.Need-item-requires-3
+item-requires-3 c κs = (refl, there (c .before .before) I32 (c .enum-told3 .given .1) _ refl)
 
-item8-requires : tie.Need-item8-requires
-item8-requires c κs = there (c .before .before) I64 (c .enum-told4 .given .1) _ refl
+item-requires-4 : tie.Need-item-requires-4
+item-requires-4 c κs = (refl, there (c .before .before) I64 (c .enum-told4 .given .1) _ refl)
 
-item4-requires-2 : tie.Need-item4-requires-2
-item4-requires-2 c κs = there (c .before .before) Date (c .enum-told5 .given .1) _ refl
+item-requires-5 : tie.Need-item-requires-5
+item-requires-5 c κs = (refl, there (c .before .before) Date (c .enum-told5 .given .1) _ refl)
 
-item8-requires-2 : tie.Need-item8-requires-2
-item8-requires-2 c κs = there (c .before .before) Timestamp (c .enum-told6 .given .1) _ refl
+item-requires-6 : tie.Need-item-requires-6
+item-requires-6 c κs = (refl, there (c .before .before) Timestamp (c .enum-told6 .given .1) _ refl)
 
 returns : tie.Need-returns
 returns c =
     let at = c .before .before .before .before .before .before .args .i in
     found (c .before .before .before .before) Boolean (c .before .before .enum-told .given .1) at (omega arith)
-    (c .before .item1 .ensures) (c .decode .ensures) (search needs)
+    (c .before .item .ensures) (c .decode .ensures) (search needs)
 
 returns-2 : tie.Need-returns-2
 returns-2 c =
@@ -62,32 +62,32 @@ returns-2 c =
 returns-3 : tie.Need-returns-3
 returns-3 c =
     found (c .before .before .before .before) I32 (c .before .before .enum-told3 .given .1) _ refl
-    (c .before .item4 .ensures) (c .decode3 .ensures) (search needs)
+    (c .before .item3 .ensures) (c .decode3 .ensures) (search needs)
 
 returns-4 : tie.Need-returns-4
 returns-4 c =
     found (c .before .before .before .before) I64 (c .before .before .enum-told4 .given .1) _ refl
-    (c .before .item8 .ensures) (c .decode4 .ensures) (search needs)
+    (c .before .item4 .ensures) (c .decode4 .ensures) (search needs)
 
 returns-5 : tie.Need-returns-5
 returns-5 c =
     found (c .before .before .before .before) Date (c .before .before .enum-told5 .given .1) _ refl
-    (c .before .item42 .ensures) (c .decode5 .ensures) (search needs)
+    (c .before .item5 .ensures) (c .decode5 .ensures) (search needs)
 
 returns-6 : tie.Need-returns-6
 returns-6 c =
     found (c .before .before .before .before) Timestamp (c .before .before .enum-told6 .given .1) _ refl
-    (c .before .item82 .ensures) (c .decode6 .ensures) (search needs)
+    (c .before .item6 .ensures) (c .decode6 .ensures) (search needs)
 
 pub value-at-spec : {M : Type 1} → statement M
 value-at-spec =
     tie.close
     (tie.spec
     (λ c κs. search needs)
-    (λ c. search needs) item1-requires (λ c κs. search needs)
-    (λ c. search needs) (λ c. search needs) item2-requires (λ c κs. search needs)
-    (λ c. search needs) (λ c. search needs) item4-requires (λ c κs. search needs)
-    (λ c. search needs) (λ c. search needs) item8-requires (λ c κs. search needs)
-    (λ c. search needs) (λ c. search needs) item4-requires-2 (λ c κs. search needs)
-    (λ c. search needs) (λ c. search needs) item8-requires-2 (λ c κs. search needs)
+    (λ c. search needs) item-requires (λ c κs. search needs)
+    (λ c. search needs) (λ c. search needs) item-requires-2 (λ c κs. search needs)
+    (λ c. search needs) (λ c. search needs) item-requires-3 (λ c κs. search needs)
+    (λ c. search needs) (λ c. search needs) item-requires-4 (λ c κs. search needs)
+    (λ c. search needs) (λ c. search needs) item-requires-5 (λ c κs. search needs)
+    (λ c. search needs) (λ c. search needs) item-requires-6 (λ c κs. search needs)
     returns returns-2 returns-3 returns-4 returns-5 returns-6)

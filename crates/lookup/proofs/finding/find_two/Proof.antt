@@ -2,6 +2,7 @@
 use Prim.Native.Nat.{_-_}
 use native.Mathlib.Omega.{arith}
 use borrow.Author.Needs.{needs}
+use mathlib.Core.Path.{refl}
 use Rattle.lookup.proofs.Words.{Seeking, seeking-start, seeking-item, seeking-here, seeking-step, seeking-end}
 use Rattle.lookup.proofs.finding.find_two.Statement.{statement}
 use Rattle.lookup.proofs.finding.find_two.Tie as tie
@@ -15,13 +16,13 @@ abbrev μ-loop : tie.MeasureT-loop
 loop-holds : tie.Need-loop-holds Inv-loop μ-loop
 loop-holds c = seeking-start _ _ _ _
 
-item2-requires : tie.Need-item2-requires Inv-loop μ-loop
-item2-requires c κs = seeking-item (c .before .loop .inv) (c .before .before .before .pre) (omega arith)
+item-requires : tie.Need-item-requires Inv-loop μ-loop
+item-requires c κs = (refl, seeking-item (c .before .loop .inv) (c .before .before .before .pre) (omega arith))
 
 returns : tie.Need-returns Inv-loop μ-loop
 returns c =
     let l = c .before .before .before .before in
-    seeking-here (l .loop .inv) (l .before .before .pre) (omega arith) (c .before .before .item2 .ensures) (c .before .low2 .ensures .0) (c .if1 .taken)
+    seeking-here (l .loop .inv) (l .before .before .pre) (omega arith) (c .before .before .item .ensures) (c .before .low2 .ensures .0) (c .if1 .taken)
 
 add-at : tie.Need-add-at Inv-loop μ-loop
 add-at c =
@@ -32,7 +33,7 @@ add-at c =
 loop-again : tie.Need-loop-again Inv-loop μ-loop
 loop-again c =
     let l = c .before .before .before .before in
-    seeking-step (l .loop .inv) (l .before .before .pre) (omega arith) (c .before .before .item2 .ensures) (c .before .low2 .ensures .0) (c .if1 .left)
+    seeking-step (l .loop .inv) (l .before .before .pre) (omega arith) (c .before .before .item .ensures) (c .before .low2 .ensures .0) (c .if1 .left)
 
 returns-2 : tie.Need-returns-2 Inv-loop μ-loop
 returns-2 c = seeking-end (c .before .loop .inv) (omega arith)
@@ -42,7 +43,7 @@ find-two-spec =
     tie.close
     (tie.spec Inv-loop μ-loop
     loop-holds
-    item2-requires
+    item-requires
     (λ c κs. search needs)
     returns
     add-at

@@ -1,4 +1,4 @@
--- `view::View::remaining` meets its contract: a walk of its MIR, by hand. The struct is taken apart, and `Reader::remaining` is called on its reader.
+-- `view::View::remaining` meets its contract: a walk of its MIR, by hand. The struct is taken apart, `Reader::remaining` is called on its reader, and the struct is made again of the block and the reader that came back.
 -- All that the proof knows of a callee is that it meets its contract. What is had at exit of the parameters is what the contract says of their last values (`Said.antt` of `walk`).
 -- Assumes nothing.
 use mathlib.Core.Path.{_≡_, refl, ap, _∙_}
@@ -56,6 +56,9 @@ use Rattle.view.proofs.View.Laws as T′
 use Rattle.block.specs.declared.Left.{Left}
 use Rattle.block.proofs.Left as S
 use Rattle.block.proofs.Left.Laws as S′
+use Rattle.view.specs.declared.Unread.{Unread}
+use Rattle.view.proofs.Unread as K
+use Rattle.view.proofs.Unread.Laws as K′
 use Rattle.block.proofs.Reader.remaining as g
 use Rattle.block.proofs.Reader.remaining.Symbol as g-def
 use Rattle.block.proofs.Reader.remaining.Symbol.{name as #g}
@@ -90,12 +93,28 @@ module _ {M : Type 1} (𝓤 : URA M) (H : Heap 𝓤) (A : Atoms 𝓤) (W : Given
   abbrev Post : Val → SProp 𝓤
   Post = walkOf 𝓤 H A f.ended stayed (f.clauses 𝓤 H A mem run) .post ((κs, qs, bounds, a, vals), tt)
 
-  -- the type and laws of the struct at the lifetime
+  -- the types and laws of the structs at the lifetime
   abbrev D : Declared
   D = T.the-type (namedLft 1 0 tt κs)
 
   abbrev L : LL.Laws D
   L = T′.the-laws (namedLft 1 0 tt κs)
+
+  abbrev DK : Declared
+  DK = K.the-type (namedLft 1 0 tt κs)
+
+  abbrev LK : LL.Laws DK
+  LK = K′.the-laws (namedLft 1 0 tt κs)
+
+  -- the lifetime as a local of the body has it
+  abbrev αᵉ : NamedLft
+  αᵉ = record { mir = erased; lft = κs .0 }
+
+  abbrev made : Left → View
+  made r = record { block = (a .0 .block); reader = r .reader }
+
+  abbrev ans : Left → Unread
+  ans r = record { number = r .number; rows = r .rows; view = made r }
 
   -- what the callee's triple binds outside
   abbrev cargs : Args g.signature tt
@@ -111,27 +130,39 @@ module _ {M : Type 1} (𝓤 : URA M) (H : Heap 𝓤) (A : Atoms 𝓤) (W : Given
   abbrev E0 : Left → Type 0
   E0 r = r ≡ remaining (a .0 .reader)
 
-  exits : (r : Left) (u : Val) (zs : Lasts g.ended tt cargs) → E0 r → ent 𝓤 (⋆ 𝓤 H A (raw Toks ∷ ‵ (lasts g.ended tt cargs zs) ∷ ‵ (S.the-row .own r (u ∷ [])) ∷ [])) (Post u)
-  exits r u zs e0 =
-      qed W (raw Toks ∷ ‵ (lasts g.ended tt cargs zs) ∷ ‵ (S.the-row .own r (u ∷ [])) ∷ []) ∵
-      suffices ! _ (ends-at 𝓤 H A f.ended stayed (f.clauses 𝓤 H A mem run) W ((κs, qs, bounds, a, vals), tt) u r zs (fits-said κs (f.signature .params) (f.ended .kept) a zs)) $
+  exits : (r : Left) (zs : Lasts g.ended tt cargs) → E0 r → ent 𝓤 (⋆ 𝓤 H A (raw Toks ∷ ‵ (lasts g.ended tt cargs zs) ∷ ‵ (K.the-row (namedLft 1 0 tt κs) .own (ans r) (K′.lowered (ans r) ∷ [])) ∷ [])) (Post (K′.lowered (ans r)))
+  exits r zs e0 =
+      qed W (raw Toks ∷ ‵ (lasts g.ended tt cargs zs) ∷ ‵ (K.the-row (namedLft 1 0 tt κs) .own (ans r) (K′.lowered (ans r) ∷ [])) ∷ []) ∵
+      suffices ! _ (ends-at 𝓤 H A f.ended stayed (f.clauses 𝓤 H A mem run) W ((κs, qs, bounds, a, vals), tt) (K′.lowered (ans r)) (ans r) zs (fits-said κs (f.signature .params) (f.ended .kept) a zs)) $
       group ! 3 $ frame ! $
-      use0 W (raw (fact 𝓤 (r ≡ remaining (a .0 .reader)))) (factI 𝓤 (r ≡ remaining (a .0 .reader)) (emp 𝓤) (e0)) $ done !
+      use0 W (raw (fact 𝓤 ((ans r .number ≡ remaining (a .0 .reader) .number) × (ans r .rows ≡ remaining (a .0 .reader) .rows) × (ans r .view .block ≡ (a .0 .block)) × (ans r .view .reader ≡ remaining (a .0 .reader) .reader)))) (factI 𝓤 ((ans r .number ≡ remaining (a .0 .reader) .number) × (ans r .rows ≡ remaining (a .0 .reader) .rows) × (ans r .view .block ≡ (a .0 .block)) × (ans r .view .reader ≡ remaining (a .0 .reader) .reader)) (emp 𝓤) ((ap (λ (z : Left). z .number) e0, ap (λ (z : Left). z .rows) e0, refl, ap (λ (z : Left). z .reader) e0))) $ done !
 
   module _ (C : Calls 𝓤 H) (Λ : Loops 𝓤 H) (fm : FmC 𝓤 H (W .laws) C) (known-g : Triple 𝓤 (C #g) (G 𝓤 H A mem run)) (are : Are (Rs κs) (Ises (Rs κs)) a vals) where
     walk : ent 𝓤 (onEntry 𝓤 H A f.signature κs qs a vals) (WpFn 𝓤 H C Λ code.function passed Post)
     walk =
-        qed W (raw Toks ∷ ‵ (owns (Rs κs) a vals) ∷ []) ∵ enter ! C Λ code.function passed _ $ alloc1 ! (λ l0. alloc1 ! (λ l1. alloc1 ! (λ l2. alloc0 ! $ params1 ! $ pass1 ! (init ! 2 refl (LL.lawful D L 𝓤 H A W .typed (a .0) _ (are .0) .0)) $ pass0 ! $
-        -- [L2; L1; L0; toks; own]
-        assigns ! (of-opd ! (load ! (from ! (fld ! refl (stop !))) (look-in ! 2 (sub ! 1 refl (whole !))))) (from ! (stop !)) (init ! 0 refl (tt, LL.lawful D L 𝓤 H A W .typed (a .0) _ (are .0) .0 .1 .1 .0)) $
-        -- [L2; L1; L0; toks; own]
-        move ! (7 ∷ []) $ fsplit ! $ use1 W (given (T′.lowered (a .0) ∷ [] ≡ T′.lowered (a .0) ∷ []) (‵ (all-own (D .parts) L (a .0 .block, (a .0 .reader, tt))))) (own-open 𝓤 H A W D L (a .0 .block, (a .0 .reader, tt)) (T′.lowered (a .0))) $ learn ! (λ _. fsplit3 ! $ move ! (1 ∷ []) $ use1 W (raw (G 𝓤 H A mem run .pre to-g)) asks $
-        -- [pre; ownB; true; ownRest; L2; L1; L0; toks]
-        calls-at ! fm (G 𝓤 H A mem run) known-g to-g (and-then ! (load ! (from ! (stop !)) (look ! 4 refl)) (no-more !)) (λ u. use1 W (later (some (λ (r : Left). (‵ ftrue ⊛ ‵ (S.the-row .own r (u ∷ []))) ⊛ raw (ensured 𝓤 H A g.ended (g.clauses 𝓤 H A mem run) tt cargs tt r)))) (id⊢ 𝓤 _) $ await ! tt $ pick ! (λ r. split ! $ move ! (1 ∷ []) $
+        qed W (raw Toks ∷ ‵ (owns (Rs κs) a vals) ∷ []) ∵ enter ! C Λ code.function passed _ $ alloc1 ! (λ l0. alloc1 ! (λ l1. alloc1 ! (λ l2. alloc1 ! (λ l3. alloc1 ! (λ l4. alloc1 ! (λ l5. alloc1 ! (λ l6. alloc1 ! (λ l7. alloc1 ! (λ l8. alloc1 ! (λ l9. alloc0 ! $ params1 ! $ pass1 ! (init ! 16 refl (LL.lawful D L 𝓤 H A W .typed (a .0) _ (are .0) .0)) $
+        pass0 ! $
+        -- [L9; L8; L7; L6; L5; L4; L3; L2; L1; L0; toks; own]
+        assigns ! (of-opd ! (load ! (from ! (fld ! refl (stop !))) (look-in ! 16 (sub ! 1 refl (whole !))))) (from ! (stop !)) (init ! 2 refl (tt, LL.lawful D L 𝓤 H A W .typed (a .0) _ (are .0) .0 .1 .1 .0)) $
+        -- [L9; L8; L7; L6; L5; L4; L3; L2; L1; L0; toks; own]
+        move ! (21 ∷ []) $ fsplit ! $ use1 W (given (T′.lowered (a .0) ∷ [] ≡ T′.lowered (a .0) ∷ []) (‵ (all-own (D .parts) L (a .0 .block, (a .0 .reader, tt))))) (own-open 𝓤 H A W D L (a .0 .block, (a .0 .reader, tt)) (T′.lowered (a .0))) $ learn ! (λ _. fsplit3 ! $ peeks ! (ShrSlice (named 0) (κs .0) u8) (Is (ShrSlice (named 0) (κs .0) u8)) (shows 𝓤 H A (ShrSlice (named 0) (κs .0) u8)) (a .0 .block) (sliceVal ((a .0 .block) .ptr) (length ((a .0 .block) .now)) ∷ []) (λ isS.
+        move ! (1 ∷ []) $ use1 W (raw (G 𝓤 H A mem run .pre to-g)) asks $
+        -- [pre; ownB; true; rest; L9; L8; L7; L6; L5; L4; L3; L2; L1; L0; toks]
+        calls-at ! fm (G 𝓤 H A mem run) known-g to-g (and-then ! (load ! (from ! (stop !)) (look ! 6 refl)) (no-more !)) (λ u. use1 W (later (some (λ (r : Left). (‵ ftrue ⊛ ‵ (S.the-row .own r (u ∷ []))) ⊛ raw (ensured 𝓤 H A g.ended (g.clauses 𝓤 H A mem run) tt cargs tt r)))) (id⊢ 𝓤 _) $ await ! tt $ pick ! (λ r. split ! $ move ! (1 ∷ []) $
         use1 W (some (λ (zs : Lasts g.ended tt cargs). ‵ (lasts g.ended tt cargs zs) ⊛ raw (fact 𝓤 (E0 r)))) (id⊢ 𝓤 _) $ pick ! (λ zs. split ! $ move ! (1 ∷ []) $ heard ! (E0 r) (λ e0. move ! (1 ∷ []) $ split ! $ move ! (1 ∷ []) $
-        -- [ownR; t0; lasts; ownB; true; ownRest; L2; L1; L0; toks]
-        peeks ! S.the-row (Is S.the-row) (shows 𝓤 H A S.the-row) r (u ∷ []) (λ is. land ! (from ! (stop !)) (init ! 10 refl (LL.lawful S.the-type S′.the-laws 𝓤 H A W .typed r _ is .0)) $ returns ! (look ! 10 refl) $ forget ! 6 refl $ forget ! 8 refl $ forget ! 10 refl $ move ! (10 ∷ 11 ∷ []) $ free1 ! $ move ! (8 ∷ 9 ∷ []) $ free1 ! $ move ! (6 ∷ 7 ∷ []) $
-        free1 ! $ free0 ! $ keep ! (6 ∷ 2 ∷ 0 ∷ []) $ by ! (exits r u zs e0))))))))))
+        -- [ownR; t0; lasts; ownB; true; rest; L9; L8; L7; L6; L5; L4; L3; L2; L1; L0; toks]
+        peeks ! S.the-row (Is S.the-row) (shows 𝓤 H A S.the-row) r (u ∷ []) (λ is. land ! (from ! (stop !)) (init ! 20 refl (LL.lawful S.the-type S′.the-laws 𝓤 H A W .typed r _ is .0)) $ rewrite ! 20 (λ (v : Val). ‵ (fat fullShare S′.mir l2 0 v)) (ap only (LL.tells S.the-type S′.the-laws r _ is)) refl $
+        -- [ownR; t0; lasts; ownB; true; rest; L9; L8; L7; L6; L5; L4; L3; L2; L1; L0; toks]
+        assigns ! (of-opd ! (load ! (from ! (fld ! refl (stop !))) (look-in ! 22 (sub ! 0 refl (whole !))))) (from ! (stop !)) (init ! 18 refl (tt, LL.lawful D L 𝓤 H A W .typed (a .0) _ (are .0) .0 .1 .0)) $ assigns ! (of-opd ! (load ! (from ! (fld ! refl (stop !))) (look-in ! 20 (sub ! 2 refl (whole !))))) (from ! (stop !)) (init ! 16 refl (LL.lawful P.the-type P′.the-laws 𝓤 H A W .typed (r .reader) _ (LL.owed S.the-type S′.the-laws r _ is .1 .1 .0) .0)) $
+        assigns ! (agg ! (and-then ! (load ! (from ! (stop !)) (look ! 18 refl)) (and-then ! (load ! (from ! (stop !)) (look ! 16 refl)) (no-more !)))) (from ! (stop !)) (init ! 14 refl (LL.lawful (T.the-type αᵉ) (T′.the-laws αᵉ) 𝓤 H A W .typed (made r) _ (LL.owes D L (made r) (isS, (LL.owed S.the-type S′.the-laws r _ is .1 .1 .0, tt))) .0)) $
+        -- [ownR; t0; lasts; ownB; true; rest; L9; L8; L7; L6; L5; L4; L3; L2; L1; L0; toks]
+        assigns ! (of-opd ! (load ! (from ! (fld ! refl (stop !))) (look-in ! 20 (sub ! 0 refl (whole !))))) (from ! (stop !)) (init ! 12 refl (uint-lawful 𝓤 H A W w8 .typed (r .number) _ (LL.owed S.the-type S′.the-laws r _ is .0) .0)) $ assigns ! (of-opd ! (load ! (from ! (fld ! refl (stop !))) (look-in ! 20 (sub ! 1 refl (whole !))))) (from ! (stop !)) (init ! 10 refl (uint-lawful 𝓤 H A W w64 .typed (r .rows) _ (LL.owed S.the-type S′.the-laws r _ is .1 .0) .0)) $
+        assigns ! (of-opd ! (load ! (from ! (stop !)) (look ! 14 refl))) (from ! (stop !)) (init ! 6 refl (LL.lawful (T.the-type αᵉ) (T′.the-laws αᵉ) 𝓤 H A W .typed (made r) _ (LL.owes D L (made r) (isS, (LL.owed S.the-type S′.the-laws r _ is .1 .1 .0, tt))) .0)) $ assigns ! (agg ! (and-then ! (load ! (from ! (stop !)) (look ! 12 refl)) (and-then ! (load ! (from ! (stop !)) (look ! 10 refl)) (and-then ! (load ! (from ! (stop !)) (look ! 6 refl)) (no-more !))))) (from ! (stop !)) (init ! 24 refl (LL.lawful DK LK 𝓤 H A W .typed (ans r) _ (LL.owes DK LK (ans r) (LL.owed S.the-type S′.the-laws r _ is .0, (LL.owed S.the-type S′.the-laws r _ is .1 .0, (LL.owes D L (made r) (isS, (LL.owed S.the-type S′.the-laws r _ is .1 .1 .0, tt)), tt)))) .0)) $
+        -- [ownR; t0; lasts; ownB; true; rest; L9; L8; L7; L6; L5; L4; L3; L2; L1; L0; toks]
+        move ! (3 ∷ []) $ nothing ! $ owned ! P.the-row (Is P.the-row) (LL.makes P.the-type P′.the-plain 𝓤 H A) (r .reader) _ (LL.owed S.the-type S′.the-laws r _ is .1 .1 .0) $ move ! (2 ∷ 0 ∷ 1 ∷ []) $ fjoin3 ! $ use1 W (‵ (T.the-row (namedLft 1 0 tt κs) .own (made r) (T′.lowered (made r) ∷ []))) (own-shut 𝓤 H A W D L ((a .0 .block), (r .reader, tt))) $
+        nothing ! $ move ! (1 ∷ 0 ∷ []) $ fjoin ! $ owned ! usize (Is usize) (uint-makes 𝓤 H A W w64) (r .rows) _ (LL.owed S.the-type S′.the-laws r _ is .1 .0) $ fjoin ! $ owned ! u8 (Is u8) (uint-makes 𝓤 H A W w8) (r .number) _ (LL.owed S.the-type S′.the-laws r _ is .0) $ fjoin ! $ use1 W (‵ (K.the-row (namedLft 1 0 tt κs) .own (ans r) (K′.lowered (ans r) ∷ []))) (own-shut 𝓤 H A W DK LK (r .number, (r .rows, (made r, tt)))) $
+        returns ! (look ! 24 refl) $ forget ! 6 refl $ forget ! 8 refl $ forget ! 10 refl $ forget ! 12 refl $ forget ! 14 refl $ forget ! 16 refl $ forget ! 18 refl $ forget ! 20 refl $ forget ! 22 refl $ forget ! 24 refl $ move ! (24 ∷ 25 ∷ []) $ free1 ! $ move ! (22 ∷ 23 ∷ []) $ free1 ! $ move ! (20 ∷ 21 ∷ []) $ free1 ! $ move ! (18 ∷ 19 ∷ []) $
+        free1 ! $ move ! (16 ∷ 17 ∷ []) $ free1 ! $ move ! (14 ∷ 15 ∷ []) $ free1 ! $ move ! (12 ∷ 13 ∷ []) $ free1 ! $ move ! (10 ∷ 11 ∷ []) $ free1 ! $ move ! (8 ∷ 9 ∷ []) $ free1 ! $ move ! (6 ∷ 7 ∷ []) $ free1 ! $ free0 ! $ keep ! (6 ∷ 3 ∷ 0 ∷ []) $ by ! (exits r zs e0))))))))))))))))))
 
 module _ {M : Type 1} (𝓤 : URA M) (H : Heap 𝓤) (A : Atoms 𝓤) (W : Given 𝓤 H A) (mem : Memory → SProp 𝓤) (run : Routine → Fun 𝓤) where
   f-walks : (C : Calls 𝓤 H) (Λ : Loops 𝓤 H) → FmC 𝓤 H (W .laws) C → Triple 𝓤 (C #g) (G 𝓤 H A mem run) → Walks 𝓤 H A f.ended stayed (WpFn 𝓤 H C Λ code.function) (f.clauses 𝓤 H A mem run)

@@ -1,0 +1,9 @@
+pub mod Room
+pub mod Carrying
+pub mod RoomForOne
+pub mod Unchanged
+pub mod OneCall
+pub mod AcceptedRows
+pub mod AnyCalls
+pub mod Lengthening
+pub mod Retrying

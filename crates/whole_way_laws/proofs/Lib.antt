@@ -1,0 +1,3 @@
+pub mod Written
+pub mod CountedRows
+pub mod WholeWay

@@ -1,0 +1,174 @@
+/* Passes NULL with length 0 for every area of every call: alone, for the answers that are due, and then in every choice of areas, where
+ * the call is made again with a pointer that isn't NULL, also with length 0, and must answer and write the same. Nothing lies at NULL,
+ * so reading or writing there ends the program. Prints a line for each thing that isn't as expected, and how many were. */
+#include "idzulgar.h"
+
+#include <stdio.h>
+#include <string.h>
+
+static int passed, failed;
+
+static void expect(int holds, const char *what, int kind, int encoding) {
+    if (holds) {
+        passed++;
+    } else {
+        failed++;
+        printf("not so: %s (kind %d, encoding %d)\n", what, kind, encoding);
+    }
+}
+
+/* The C library's functions that the library calls come through here (host/test links with --wrap): NULL goes to none of them. */
+static int given_null;
+
+void *__real_memset(void *to, int byte, size_t len);
+void *__wrap_memset(void *to, int byte, size_t len);
+void *__wrap_memset(void *to, int byte, size_t len) {
+    given_null += to == NULL;
+    return __real_memset(to, byte, len);
+}
+
+void *__real_memcpy(void *to, const void *from, size_t len);
+void *__wrap_memcpy(void *to, const void *from, size_t len);
+void *__wrap_memcpy(void *to, const void *from, size_t len) {
+    given_null += to == NULL || from == NULL;
+    return __real_memcpy(to, from, len);
+}
+
+void *__real_memmove(void *to, const void *from, size_t len);
+void *__wrap_memmove(void *to, const void *from, size_t len);
+void *__wrap_memmove(void *to, const void *from, size_t len) {
+    given_null += to == NULL || from == NULL;
+    return __real_memmove(to, from, len);
+}
+
+/* All that is lent. */
+static struct memory {
+    int64_t values[4];
+    uint32_t given_ends[4], ends[4], counts[4];
+    int32_t keys[4];
+    uint8_t items[16], flags[4], lens[4], given_flags[4], given_bytes[4], out[64];
+} memory;
+
+static int64_t elsewhere; /* aligned for any item */
+
+/* Lent is an area, or `none` with length 0 if its bit of `missing` is set. */
+#define LENT(bit, area) (missing >> (bit) & 1 ? none : (void *)memory.area), (missing >> (bit) & 1 ? 0 : sizeof memory.area / sizeof memory.area[0])
+
+/* A row: null, of no bytes, or of one. */
+enum { NO_ROW, NO_BYTES, ONE_BYTE, SORTS };
+
+static idz_appended append(idz_builder builder, unsigned missing, void *none, int sort) {
+    static const uint8_t item[] = {1};
+    return idz_append(builder, LENT(0, items), LENT(1, ends), LENT(2, flags), LENT(3, counts), LENT(4, keys), LENT(5, lens),
+                      sort != NO_ROW, 1, sort == ONE_BYTE ? item : none, sort == ONE_BYTE);
+}
+
+static idz_finished finish(idz_builder builder, unsigned missing, void *none) {
+    return idz_finish(builder, LENT(0, items), LENT(1, ends), LENT(2, flags), LENT(3, counts), LENT(4, keys), LENT(5, lens),
+                      LENT(6, out));
+}
+
+static idz_given batch(idz_reader reader, const uint8_t *block, size_t len, size_t size, unsigned missing, void *none) {
+    return idz_batch(reader, block, len, size, LENT(0, values), LENT(1, given_flags), LENT(2, given_ends), LENT(3, given_bytes));
+}
+
+enum { ALL_OF_BUILDING = 127, ALL_OF_READING = 15 };
+
+static int same_builder(idz_builder one, idz_builder other) { return memcmp(&one, &other, sizeof one) == 0; }
+
+static int same_reader(idz_reader one, idz_reader other) { return memcmp(&one, &other, sizeof one) == 0; }
+
+static int same_memory(struct memory one) { return memcmp(&one, &memory, sizeof one) == 0; }
+
+/* No memory at all: nothing to read from and none to build in. */
+static void nothing(int kind, int encoding, size_t width) {
+    static const uint8_t opens[] = {IDZ_DONE, IDZ_CUT, IDZ_DONE, IDZ_DONE, IDZ_CUT};
+    static const uint8_t finishes[] = {IDZ_DONE, IDZ_ROOM, IDZ_DONE, IDZ_DONE, IDZ_ROOM};
+    idz_opening opening = idz_open((size_t)kind, (size_t)encoding, width, 0, NULL, 0);
+    expect(opening.number == opens[encoding], "no bytes opened", kind, encoding);
+    uint8_t due = opens[encoding] == IDZ_DONE ? IDZ_DONE : IDZ_DISAGREE;
+    idz_given given = batch(opening.reader, NULL, 0, 1, ALL_OF_READING, NULL);
+    expect(given.number == due && given.rows == 0 && given.bytes == 0, "a batch of no bytes into no memory", kind, encoding);
+    expect(batch(opening.reader, NULL, 0, 0, ALL_OF_READING, NULL).number == IDZ_NO_ROWS, "a batch of 0 rows", kind, encoding);
+    expect(idz_skip(opening.reader, NULL, 0, 0).number == due, "a skip over no bytes", kind, encoding);
+    idz_builder builder = idz_create((size_t)kind, (size_t)encoding, width, 0).builder;
+    idz_finished finished = finish(builder, ALL_OF_BUILDING, NULL);
+    expect(finished.number == finishes[encoding] && finished.len == 0, "no rows finished into no memory", kind, encoding);
+    for (int sort = 0; sort < SORTS; sort++) {
+        idz_appended appended = append(builder, ALL_OF_BUILDING, NULL, sort);
+        expect(appended.number == IDZ_ROOM && same_builder(appended.builder, builder), "a row into no memory", kind, encoding);
+    }
+}
+
+/* Reads a block of these rows in every choice of areas. */
+static void read_back(int kind, int encoding, size_t width, size_t rows, const uint8_t *block, size_t len) {
+    idz_opening opening = idz_open((size_t)kind, (size_t)encoding, width, rows, block, len);
+    expect(opening.number == IDZ_DONE, "a block opened", kind, encoding);
+    for (unsigned missing = 0; missing <= ALL_OF_READING; missing++) {
+        struct memory before = memory;
+        idz_given one = batch(opening.reader, block, len, 4, missing, NULL);
+        struct memory after = memory;
+        memory = before;
+        idz_given other = batch(opening.reader, block, len, 4, missing, &elsewhere);
+        expect(one.number == other.number && one.rows == other.rows && one.bytes == other.bytes, "batch's answer", kind, encoding);
+        expect(same_reader(one.reader, other.reader) && same_memory(after), "what batch leaves", kind, encoding);
+        memory = before;
+    }
+}
+
+/* One row more, and the block, in every choice of areas. */
+static void build_on(int kind, int encoding, idz_builder builder) {
+    for (unsigned missing = 0; missing <= ALL_OF_BUILDING; missing++) {
+        struct memory before = memory;
+        for (int sort = 0; sort < SORTS; sort++) {
+            idz_appended one = append(builder, missing, NULL, sort);
+            struct memory after = memory;
+            memory = before;
+            idz_appended other = append(builder, missing, &elsewhere, sort);
+            expect(one.number == other.number && same_builder(one.builder, other.builder), "append's answer", kind, encoding);
+            expect(same_memory(after), "what append leaves", kind, encoding);
+            memory = before;
+        }
+        idz_finished one = finish(builder, missing, NULL);
+        struct memory after = memory;
+        memory = before;
+        idz_finished other = finish(builder, missing, &elsewhere);
+        expect(one.number == other.number && one.len == other.len, "finish's answer", kind, encoding);
+        expect(same_builder(one.builder, builder) && same_memory(after), "what finish leaves", kind, encoding);
+        memory = before;
+    }
+}
+
+/* Up to two rows of each sort, then one more, and the block read back. */
+static void some(int kind, int encoding, size_t width) {
+    for (int first = 0; first <= SORTS; first++) {
+        for (int second = 0; second <= (first < SORTS ? SORTS : 0); second++) {
+            idz_builder builder = idz_create((size_t)kind, (size_t)encoding, width, 0).builder;
+            if (first < SORTS) {
+                builder = append(builder, 0, NULL, first).builder;
+            }
+            if (first < SORTS && second < SORTS) {
+                builder = append(builder, 0, NULL, second).builder;
+            }
+            build_on(kind, encoding, builder);
+            struct memory kept = memory;
+            idz_finished finished = finish(builder, 0, NULL);
+            expect(finished.number == IDZ_DONE, "a block finished", kind, encoding);
+            read_back(kind, encoding, width, builder.rows, finished.len > 0 ? memory.out : NULL, finished.len);
+            memory = kept;
+        }
+    }
+}
+
+int main(void) {
+    for (int kind = IDZ_BOOL; kind <= IDZ_BLOB; kind++) {
+        for (int encoding = IDZ_PLAIN; encoding <= IDZ_DICTIONARY; encoding++) {
+            size_t width = kind == IDZ_CHAR ? 2 : 0;
+            nothing(kind, encoding, width);
+            some(kind, encoding, width);
+        }
+    }
+    expect(given_null == 0, "no NULL goes to the C library", -1, -1);
+    printf("%d passed, %d failed\n", passed, failed);
+    return failed > 0;
+}
