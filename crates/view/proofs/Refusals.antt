@@ -1,11 +1,10 @@
--- After a refusal: the size that is asked for, the number that comes back, and that the three calls one after the other come to the definition. Assumes
--- nothing.
+-- The three calls one after the other come to the definition. Assumes nothing.
 use Prim.Native.Nat.{ℕ}
 use mathlib.Core.Bool.{Bool, true, false, cond}
 use mathlib.Core.List.{List}
 use mathlib.Core.Path.{_≡_, refl, sym, ap, subst, _∙_}
 use lib.Dec.{eqb}
-use borrow.Author.Tests.{eq-eqb, ne-eqb, eqb-false}
+use borrow.Author.Tests.{eqb-false}
 use Rattle.encode.specs.Kinds.{numbered, kindOf}
 use Rattle.format.specs.Blocks.{columnOf, withEncoding}
 use Rattle.block.specs.declared.Reader.{Reader}
@@ -17,33 +16,8 @@ use Rattle.block.specs.Reading.{Areas, Batch, refusedBatch, skippedIn, skipped,
 use Rattle.block.specs.declared.Opening.{Opening}
 use Rattle.view.specs.declared.Steps.{Steps}
 use Rattle.view.specs.Viewing.{batchFrom, readFrom}
-use Rattle.view.specs.Stepwise.{sizeAfter, firstRefusal, Read, stepwise}
-
--- ---- the three outcomes of the two helpers
-module _ (o s x : ℕ) where
-  pub size-unopened : (o ≡ 0 → ⊥) → 0 ≡ sizeAfter o s x
-  unfolding sizeAfter
-  size-unopened h = simp (ne-eqb o 0 h)
-
-  pub size-unskipped : o ≡ 0 → (s ≡ 0 → ⊥) → 0 ≡ sizeAfter o s x
-  unfolding sizeAfter
-  size-unskipped g h = simp (eq-eqb o 0 g, ne-eqb s 0 h)
-
-  pub size-kept : o ≡ 0 → s ≡ 0 → x ≡ sizeAfter o s x
-  unfolding sizeAfter
-  size-kept g h = simp (eq-eqb o 0 g, eq-eqb s 0 h)
-
-  pub first-opened : (o ≡ 0 → ⊥) → o ≡ firstRefusal o s x
-  unfolding firstRefusal
-  first-opened h = simp (ne-eqb o 0 h)
-
-  pub first-skipped : o ≡ 0 → (s ≡ 0 → ⊥) → s ≡ firstRefusal o s x
-  unfolding firstRefusal
-  first-skipped g h = simp (eq-eqb o 0 g, ne-eqb s 0 h)
-
-  pub first-given : o ≡ 0 → s ≡ 0 → x ≡ firstRefusal o s x
-  unfolding firstRefusal
-  first-given g h = simp (eq-eqb o 0 g, eq-eqb s 0 h)
+use Rattle.in_turn.specs.InTurn.{sizeAfter, firstRefusal}
+use Rattle.view.specs.Stepwise.{Read, stepwise}
 
 -- ---- the three calls come to the definition
 -- what `read` makes of the three answers

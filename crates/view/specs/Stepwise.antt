@@ -1,18 +1,11 @@
 -- For the code: opening, a skip and a batch one after the other. After a refusal the batch is one of 0 rows, which writes nothing. Assumes nothing.
 use Prim.Native.Nat.{ℕ}
-use mathlib.Core.Bool.{cond}
 use mathlib.Core.List.{List}
-use lib.Dec.{eqb}
+use Rattle.in_turn.specs.InTurn.{sizeAfter}
 use Rattle.block.specs.declared.Skipped.{Skipped}
 use Rattle.block.specs.Reading.{Areas, Batch, skipped, batched}
 use Rattle.block.specs.declared.Opening.{Opening}
 use Rattle.view.specs.declared.Steps.{Steps}
-
-unfoldable pub sizeAfter : ℕ → ℕ → ℕ → ℕ
-sizeAfter o s size = cond (eqb o 0) (cond (eqb s 0) size 0) 0
-
-unfoldable pub firstRefusal : ℕ → ℕ → ℕ → ℕ
-firstRefusal o s g = cond (eqb o 0) (cond (eqb s 0) g s) o
 
 pub record Read : Type 0 where
   pub answer : Steps

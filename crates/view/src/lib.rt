@@ -4,7 +4,7 @@ use block::Reader;
 ghost use mathlib.Core.Path.{_≡_};
 ghost use Rattle.block.specs.Reading.{Areas, Batch, areas, opened, skipped, batched, remaining, openingOf};
 ghost use Rattle.view.specs.Viewing.{readBlock};
-ghost use Rattle.view.specs.Stepwise.{Read, stepwise, sizeAfter, firstRefusal};
+ghost use Rattle.view.specs.Stepwise.{Read, stepwise};
 
 // A block, and where reading stands in it.
 pub struct View<'a> {
@@ -140,32 +140,6 @@ struct Steps {
     reader: Reader,
 }
 
-// The rows to ask for: none, which a batch refuses, after a refusal.
-fn size_after(opened: u8, skipped: u8, size: usize) -> usize
-    ensures { λ r. ⌜ r ≡ sizeAfter opened skipped size ⌝ }
-{
-    if opened != 0 {
-        return 0;
-    }
-    if skipped != 0 {
-        return 0;
-    }
-    size
-}
-
-// The number of the first call that is refused, or the batch's.
-fn first_refusal(opened: u8, skipped: u8, given: u8) -> u8
-    ensures { λ r. ⌜ r ≡ firstRefusal opened skipped given ⌝ }
-{
-    if opened != 0 {
-        return opened;
-    }
-    if skipped != 0 {
-        return skipped;
-    }
-    given
-}
-
 // Opens, passes over `passed` rows, and gives up to `size`.
 fn go_through(
     kind: usize,
@@ -198,7 +172,7 @@ fn go_through(
 {
     let opened = open(kind, encoding, width, rows, block);
     let skipped = opened.view.skip(passed);
-    let wanted = size_after(opened.number, skipped.number, size);
+    let wanted = in_turn::size_after(opened.number, skipped.number, size);
     let taken = skipped.view.batch(wanted, values, flags, ends, bytes);
     Steps {
         opened: opened.number,
@@ -247,7 +221,7 @@ pub fn read(
         ends,
         bytes,
     );
-    let number = first_refusal(steps.opened, steps.skipped, steps.given);
+    let number = in_turn::first_refusal(steps.opened, steps.skipped, steps.given);
     let reader = steps.reader;
     Given {
         number,

@@ -48,7 +48,8 @@ use denote.Signature.{Slot, plain, namedLft}
 use Rattle.block.specs.declared.Skipped.{Skipped}
 use Rattle.block.specs.Reading.{Areas, Batch, areas, opened, skipped, batched, openingOf}
 use Rattle.block.specs.declared.Opening.{Opening}
-use Rattle.view.specs.Stepwise.{Read, sizeAfter, stepwise}
+use Rattle.in_turn.specs.InTurn.{sizeAfter}
+use Rattle.view.specs.Stepwise.{Read, stepwise}
 use Rattle.walk.proofs.Said.{stays-said, fits-said, goes-said}
 use Rattle.block.specs.declared.Reader.{Reader}
 use Rattle.block.proofs.Reader as P
@@ -73,10 +74,10 @@ use Rattle.view.proofs.View.skip as s
 use Rattle.view.proofs.View.skip.Symbol as s-def
 use Rattle.view.proofs.View.skip.Symbol.{name as #s}
 use Rattle.view.proofs.View.skip.Met as s-thm
-use Rattle.view.proofs.size_after as z
-use Rattle.view.proofs.size_after.Symbol as z-def
-use Rattle.view.proofs.size_after.Symbol.{name as #z}
-use Rattle.view.proofs.size_after.Met as z-thm
+use Rattle.in_turn.proofs.size_after as z
+use Rattle.in_turn.proofs.size_after.Symbol as z-def
+use Rattle.in_turn.proofs.size_after.Symbol.{name as #z}
+use Rattle.in_turn.proofs.size_after.Met as z-thm
 use Rattle.view.proofs.View.batch as g
 use Rattle.view.proofs.View.batch.Symbol as g-def
 use Rattle.view.proofs.View.batch.Symbol.{name as #g}
@@ -336,5 +337,5 @@ go-through-spec 𝓤 H 𝓜 𝓖 𝓡 =
     (f-meets 𝓤 H (𝓖 .A) (givenOf 𝓤 H 𝓜 𝓖) (𝓜 .mem) (𝓡 .run) (tablesOf 𝓤 H 𝓜 (tables 𝓤 H 𝓜 𝓡 code.env))
     (cited 𝓤 H (O 𝓤 H (𝓖 .A) (𝓜 .mem) (𝓡 .run)) 𝓜 𝓡 code.env #o o-def.routine code.calls-view·open (o-thm.met 𝓤 H 𝓜 𝓖 𝓡))
     (cited 𝓤 H (SK 𝓤 H (𝓖 .A) (𝓜 .mem) (𝓡 .run)) 𝓜 𝓡 code.env #s s-def.routine code.calls-view·View·skip (s-thm.met 𝓤 H 𝓜 𝓖 𝓡))
-    (cited 𝓤 H (Z 𝓤 H (𝓖 .A) (𝓜 .mem) (𝓡 .run)) 𝓜 𝓡 code.env #z z-def.routine code.calls-view·size-after (z-thm.met 𝓤 H 𝓜 𝓖 𝓡))
+    (cited 𝓤 H (Z 𝓤 H (𝓖 .A) (𝓜 .mem) (𝓡 .run)) 𝓜 𝓡 code.env #z z-def.routine code.calls-in-turn·size-after (z-thm.met 𝓤 H 𝓜 𝓖 𝓡))
     (cited 𝓤 H (G 𝓤 H (𝓖 .A) (𝓜 .mem) (𝓡 .run)) 𝓜 𝓡 code.env #g g-def.routine code.calls-view·View·batch (g-thm.met 𝓤 H 𝓜 𝓖 𝓡)))

@@ -6,7 +6,7 @@ use Rattle.view.proofs.read.Statement.{statement}
 use Rattle.view.proofs.read.Tie as tie
 use Rattle.view.proofs.read.Reads as reads
 use Rattle.view.proofs.read.Lts as lts
-use Rattle.view.proofs.first_refusal.Reads as first-refusal-reads
+use Rattle.in_turn.proofs.first_refusal.Reads as first-refusal-reads
 use Rattle.view.proofs.go_through.Reads as go-through-reads
 
 -- src/lib.rt:192:9
