@@ -3,3 +3,4 @@ pub mod RecordTests
 pub mod NextRows
 pub mod SkipCases
 pub mod BatchCases
+pub mod Coincide

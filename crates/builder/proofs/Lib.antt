@@ -1,3 +1,4 @@
 mod Answers
 mod BlockHeld
 mod Samples
+pub mod Coincide

@@ -1,3 +1,4 @@
 pub mod Building
+pub mod Promises
 pub mod Finishing
 pub mod Asking

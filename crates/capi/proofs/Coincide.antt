@@ -1,37 +1,23 @@
 -- Two results that keep a call's promise are the same, for each call by its name: the promise leaves nothing open, neither a number, nor a field of a record,
--- nor a byte of an area. Assumes nothing.
+-- nor a byte of an area. Of append it is said in builder/proofs/Coincide. Assumes nothing.
 use Prim.Native.Nat.{ℕ}
 use mathlib.Core.Path.{_≡_, sym, _∙_}
 use mathlib.Core.Bool.{Bool}
 use mathlib.Core.List.{List}
-use lib.IntN.{ℤ}
 use Rattle.block.specs.declared.Reader.{Reader}
 use Rattle.block.specs.declared.Opening.{Opening}
 use Rattle.block.specs.declared.Given.{Given}
 use Rattle.block.specs.declared.Skipped.{Skipped}
 use Rattle.block.specs.declared.Left.{Left}
-use Rattle.block.specs.Reading.{Areas, areas}
-use Rattle.append.specs.Appending.{Lent, lent}
+use Rattle.block.specs.Reading.{Areas}
+use Rattle.block.proofs.Coincide.{same-areas}
+use Rattle.append.specs.Appending.{Lent}
 use Rattle.builder.specs.declared.Builder.{Builder}
-use Rattle.builder.specs.declared.Appended.{Appended}
 use Rattle.builder.specs.declared.Finished.{Finished}
 use Rattle.builder.specs.declared.Estimated.{Estimated}
 use Rattle.builder.specs.declared.Asked.{Asked}
 use Rattle.capi.specs.declared.building.Creation.{Creation}
-use Rattle.capi.specs.Promises.{Opens, Batches, Skips, Remains, Creates, Appends, Finishes, Estimates, Asks}
-
--- ---- areas that hold the same one by one
-same-areas : (a b : Areas) → a .values ≡ b .values → a .flags ≡ b .flags → a .ends ≡ b .ends → a .bytes ≡ b .bytes → a ≡ b
-same-areas a b v f e t = whole
-  where
-    whole : areas (a .values) (a .flags) (a .ends) (a .bytes) ≡ areas (b .values) (b .flags) (b .ends) (b .bytes)
-    whole = rw (v, f, e, t)
-
-same-lent : (a b : Lent) → a .items ≡ b .items → a .ends ≡ b .ends → a .flags ≡ b .flags → a .counts ≡ b .counts → a .keys ≡ b .keys → a .lens ≡ b .lens → a ≡ b
-same-lent a b i e f c k l = whole
-  where
-    whole : lent (a .items) (a .ends) (a .flags) (a .counts) (a .keys) (a .lens) ≡ lent (b .items) (b .ends) (b .flags) (b .counts) (b .keys) (b .lens)
-    whole = rw (i, e, f, c, k, l)
+use Rattle.capi.specs.Promises.{Opens, Batches, Skips, Remains, Creates, Finishes, Estimates, Asks}
 
 -- ---- reading
 pub one-opening : (kind encoding width rows : ℕ) (block : List ℕ) (x y : Opening) → Opens kind encoding width rows block x → Opens kind encoding width rows block y → x ≡ y
@@ -50,13 +36,6 @@ one-remaining reader x y p q = p ∙ sym q
 -- ---- building
 pub one-creation : (kind encoding width target : ℕ) (x y : Creation) → Creates kind encoding width target x → Creates kind encoding width target y → x ≡ y
 one-creation kind encoding width target x y p q = p ∙ sym q
-
-pub one-append : (builder : Builder) (lent : Lent) (present : Bool) (value : ℤ) (item : List ℕ) (x y : Appended) (a b : Lent)
-    → Appends builder lent present value item x a → Appends builder lent present value item y b → (x ≡ y) × (a ≡ b)
-one-append builder lent present value item x y a b p q = (
-  p .0 ∙ sym (q .0),
-  same-lent a b (p .1 ∙ sym (q .1)) (p .2 ∙ sym (q .2)) (p .3 ∙ sym (q .3)) (p .4 ∙ sym (q .4)) (p .5 ∙ sym (q .5)) (p .6 ∙ sym (q .6)),
-)
 
 pub one-finish : (builder : Builder) (lent : Lent) (room : List ℕ) (x y : Finished) (a b : List ℕ)
     → Finishes builder lent room x a → Finishes builder lent room y b → (x ≡ y) × (a ≡ b)

@@ -1,10 +1,9 @@
 -- What each call promises, as one relation of what it is given and what comes of it: the answer, and what every area that it may write then holds, for all
--- numbers, records and bytes. Assumes nothing.
+-- numbers, records and bytes. What append promises stands with the builder (builder/specs/Promises). Assumes nothing.
 use Prim.Native.Nat.{ℕ}
 use mathlib.Core.Path.{_≡_}
 use mathlib.Core.Bool.{Bool}
 use mathlib.Core.List.{List}
-use lib.IntN.{ℤ}
 use Rattle.block.specs.declared.Reader.{Reader}
 use Rattle.block.specs.declared.Opening.{Opening}
 use Rattle.block.specs.declared.Given.{Given}
@@ -13,11 +12,10 @@ use Rattle.block.specs.declared.Left.{Left}
 use Rattle.block.specs.Reading.{Areas, opened, openingOf, skipped, remaining, batched}
 use Rattle.append.specs.Appending.{Lent}
 use Rattle.builder.specs.declared.Builder.{Builder}
-use Rattle.builder.specs.declared.Appended.{Appended}
 use Rattle.builder.specs.declared.Finished.{Finished}
 use Rattle.builder.specs.declared.Estimated.{Estimated}
 use Rattle.builder.specs.declared.Asked.{Asked}
-use Rattle.builder.specs.Building.{created, appended}
+use Rattle.builder.specs.Building.{created}
 use Rattle.builder.specs.Finishing.{finished, estimated, asked}
 use Rattle.capi.specs.declared.building.Creation.{Creation}
 use Rattle.capi.specs.Answers.{creationOf}
@@ -43,17 +41,6 @@ Remains reader answer = answer ≡ remaining reader
 -- ---- building
 abbrev pub Creates : (kind encoding width target : ℕ) → Creation → Type 0
 Creates kind encoding width target answer = answer ≡ creationOf (created kind encoding width target)
-
--- clause by clause what the contract of the call says
-abbrev pub Appends : (builder : Builder) (lent : Lent) (present : Bool) (value : ℤ) (item : List ℕ) → Appended → Lent → Type 0
-Appends builder lent present value item answer left =
-    (answer ≡ appended builder lent present value item .answer)
-    × (left .items ≡ appended builder lent present value item .areas .items)
-    × (left .ends ≡ appended builder lent present value item .areas .ends)
-    × (left .flags ≡ appended builder lent present value item .areas .flags)
-    × (left .counts ≡ appended builder lent present value item .areas .counts)
-    × (left .keys ≡ appended builder lent present value item .areas .keys)
-    × (left .lens ≡ appended builder lent present value item .areas .lens)
 
 abbrev pub Finishes : (builder : Builder) (lent : Lent) (room : List ℕ) → Finished → List ℕ → Type 0
 Finishes builder lent room answer out = (answer ≡ finished builder lent room .answer) × (out ≡ finished builder lent room .out)

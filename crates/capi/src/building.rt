@@ -9,7 +9,7 @@ ghost use mathlib.Core.Path.{_≡_};
 ghost use mathlib.Core.Bool.{not};
 ghost use lib.Dec.{eqb};
 ghost use Rattle.append.specs.Appending.{lent};
-ghost use Rattle.builder.specs.Building.{appended};
+ghost use Rattle.builder.specs.Promises.{Appends};
 ghost use Rattle.capi.specs.Answers.{noBuilder};
 ghost use Rattle.capi.specs.Promises.{Creates, Finishes, Estimates, Asks};
 
@@ -63,27 +63,10 @@ pub extern "C" fn idz_append(
     value: i64,
     item: &[u8],
 ) -> Appended
-    ensures { λ r. ⌜ r
-        ≡ appended builder (lent (now (items .entry)) (now (ends .entry)) (now (flags .entry)) (now (counts .entry)) (now (keys .entry)) (now (lens .entry)))
-        (not (eqb present 0)) value (now (item .entry)) .answer ⌝ }
-    ensures { λ _. ⌜ now (items .exit)
-        ≡ appended builder (lent (now (items .entry)) (now (ends .entry)) (now (flags .entry)) (now (counts .entry)) (now (keys .entry)) (now (lens .entry)))
-        (not (eqb present 0)) value (now (item .entry)) .areas .items ⌝ }
-    ensures { λ _. ⌜ now (ends .exit)
-        ≡ appended builder (lent (now (items .entry)) (now (ends .entry)) (now (flags .entry)) (now (counts .entry)) (now (keys .entry)) (now (lens .entry)))
-        (not (eqb present 0)) value (now (item .entry)) .areas .ends ⌝ }
-    ensures { λ _. ⌜ now (flags .exit)
-        ≡ appended builder (lent (now (items .entry)) (now (ends .entry)) (now (flags .entry)) (now (counts .entry)) (now (keys .entry)) (now (lens .entry)))
-        (not (eqb present 0)) value (now (item .entry)) .areas .flags ⌝ }
-    ensures { λ _. ⌜ now (counts .exit)
-        ≡ appended builder (lent (now (items .entry)) (now (ends .entry)) (now (flags .entry)) (now (counts .entry)) (now (keys .entry)) (now (lens .entry)))
-        (not (eqb present 0)) value (now (item .entry)) .areas .counts ⌝ }
-    ensures { λ _. ⌜ now (keys .exit)
-        ≡ appended builder (lent (now (items .entry)) (now (ends .entry)) (now (flags .entry)) (now (counts .entry)) (now (keys .entry)) (now (lens .entry)))
-        (not (eqb present 0)) value (now (item .entry)) .areas .keys ⌝ }
-    ensures { λ _. ⌜ now (lens .exit)
-        ≡ appended builder (lent (now (items .entry)) (now (ends .entry)) (now (flags .entry)) (now (counts .entry)) (now (keys .entry)) (now (lens .entry)))
-        (not (eqb present 0)) value (now (item .entry)) .areas .lens ⌝ }
+    ensures { λ r. ⌜ Appends builder
+        (lent (now (items .entry)) (now (ends .entry)) (now (flags .entry)) (now (counts .entry)) (now (keys .entry)) (now (lens .entry)))
+        (not (eqb present 0)) value (now (item .entry)) r
+        (lent (now (items .exit)) (now (ends .exit)) (now (flags .exit)) (now (counts .exit)) (now (keys .exit)) (now (lens .exit))) ⌝ }
 {
     let there = is_present(present);
     builder.append(items, ends, flags, counts, keys, lens, there, value, item)

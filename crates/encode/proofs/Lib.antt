@@ -5,3 +5,4 @@ pub mod ByKind
 pub mod ByNumber
 pub mod RoundTrip
 pub mod Shapes
+pub mod Coincide

@@ -16,10 +16,7 @@ use crate::mag_of;
 use crate::of_bits;
 use crate::of_bits16;
 use crate::of_bits32;
-ghost use mathlib.Core.Path.{_≡_};
-ghost use lib.ListN.{take};
-ghost use Rattle.encode.specs.Bytes.{inEight};
-ghost use Rattle.encode.specs.Kinds.{encoded, decoded, takes as taken};
+ghost use Rattle.encode.specs.Promises.{Encodes, Decodes, Takes};
 
 // bool: one byte, 0 or 1; any nonzero byte reads as true.
 pub struct BoolKind {}
@@ -30,19 +27,19 @@ impl BoolKind {
     pub const DEFAULT_VALUE: i64 = 0;
 
     pub fn encode(v: i64) -> [u8; 8]
-        ensures { λ r. ⌜ r ≡ inEight (encoded Primitive.Bool v) ⌝ }
+        ensures { λ r. ⌜ Encodes Primitive.Bool v r ⌝ }
     {
         low_first1(bits_of(v))
     }
 
     pub fn decode(item: [u8; 8]) -> i64
-        ensures { λ r. ⌜ r ≡ decoded Primitive.Bool (take 1 item) ⌝ }
+        ensures { λ r. ⌜ Decodes Primitive.Bool item r ⌝ }
     {
         if item[0] == 0 { 0 } else { 1 }
     }
 
     pub fn takes(v: i64) -> bool
-        ensures { λ r. ⌜ r ≡ taken Primitive.Bool v ⌝ }
+        ensures { λ r. ⌜ Takes Primitive.Bool v r ⌝ }
     {
         bits_of(v) < 2
     }
@@ -57,19 +54,19 @@ impl I16Kind {
     pub const DEFAULT_VALUE: i64 = 0;
 
     pub fn encode(v: i64) -> [u8; 8]
-        ensures { λ r. ⌜ r ≡ inEight (encoded Primitive.I16 v) ⌝ }
+        ensures { λ r. ⌜ Encodes Primitive.I16 v r ⌝ }
     {
         low_first2(bits_of(v))
     }
 
     pub fn decode(item: [u8; 8]) -> i64
-        ensures { λ r. ⌜ r ≡ decoded Primitive.I16 (take 2 item) ⌝ }
+        ensures { λ r. ⌜ Decodes Primitive.I16 item r ⌝ }
     {
         of_bits16(low2(item))
     }
 
     pub fn takes(v: i64) -> bool
-        ensures { λ r. ⌜ r ≡ taken Primitive.I16 v ⌝ }
+        ensures { λ r. ⌜ Takes Primitive.I16 v r ⌝ }
     {
         mag_of(v) < 0x8000
     }
@@ -84,19 +81,19 @@ impl I32Kind {
     pub const DEFAULT_VALUE: i64 = 0;
 
     pub fn encode(v: i64) -> [u8; 8]
-        ensures { λ r. ⌜ r ≡ inEight (encoded Primitive.I32 v) ⌝ }
+        ensures { λ r. ⌜ Encodes Primitive.I32 v r ⌝ }
     {
         low_first4(bits_of(v))
     }
 
     pub fn decode(item: [u8; 8]) -> i64
-        ensures { λ r. ⌜ r ≡ decoded Primitive.I32 (take 4 item) ⌝ }
+        ensures { λ r. ⌜ Decodes Primitive.I32 item r ⌝ }
     {
         of_bits32(low4(item))
     }
 
     pub fn takes(v: i64) -> bool
-        ensures { λ r. ⌜ r ≡ taken Primitive.I32 v ⌝ }
+        ensures { λ r. ⌜ Takes Primitive.I32 v r ⌝ }
     {
         mag_of(v) < 0x8000_0000
     }
@@ -111,19 +108,19 @@ impl I64Kind {
     pub const DEFAULT_VALUE: i64 = 0;
 
     pub fn encode(v: i64) -> [u8; 8]
-        ensures { λ r. ⌜ r ≡ inEight (encoded Primitive.I64 v) ⌝ }
+        ensures { λ r. ⌜ Encodes Primitive.I64 v r ⌝ }
     {
         low_first(bits_of(v))
     }
 
     pub fn decode(item: [u8; 8]) -> i64
-        ensures { λ r. ⌜ r ≡ decoded Primitive.I64 (take 8 item) ⌝ }
+        ensures { λ r. ⌜ Decodes Primitive.I64 item r ⌝ }
     {
         of_bits(low8(item))
     }
 
     pub fn takes(v: i64) -> bool
-        ensures { λ r. ⌜ r ≡ taken Primitive.I64 v ⌝ }
+        ensures { λ r. ⌜ Takes Primitive.I64 v r ⌝ }
     {
         mag_of(v) < 0x8000_0000_0000_0000
     }
@@ -138,19 +135,19 @@ impl DateKind {
     pub const DEFAULT_VALUE: i64 = 0;
 
     pub fn encode(v: i64) -> [u8; 8]
-        ensures { λ r. ⌜ r ≡ inEight (encoded Primitive.Date v) ⌝ }
+        ensures { λ r. ⌜ Encodes Primitive.Date v r ⌝ }
     {
         high_first4(bits_of(v))
     }
 
     pub fn decode(item: [u8; 8]) -> i64
-        ensures { λ r. ⌜ r ≡ decoded Primitive.Date (take 4 item) ⌝ }
+        ensures { λ r. ⌜ Decodes Primitive.Date item r ⌝ }
     {
         of_bits32(high4(item))
     }
 
     pub fn takes(v: i64) -> bool
-        ensures { λ r. ⌜ r ≡ taken Primitive.Date v ⌝ }
+        ensures { λ r. ⌜ Takes Primitive.Date v r ⌝ }
     {
         mag_of(v) < 0x8000_0000
     }
@@ -165,19 +162,19 @@ impl TimestampKind {
     pub const DEFAULT_VALUE: i64 = 0;
 
     pub fn encode(v: i64) -> [u8; 8]
-        ensures { λ r. ⌜ r ≡ inEight (encoded Primitive.Timestamp v) ⌝ }
+        ensures { λ r. ⌜ Encodes Primitive.Timestamp v r ⌝ }
     {
         high_first(bits_of(v))
     }
 
     pub fn decode(item: [u8; 8]) -> i64
-        ensures { λ r. ⌜ r ≡ decoded Primitive.Timestamp (take 8 item) ⌝ }
+        ensures { λ r. ⌜ Decodes Primitive.Timestamp item r ⌝ }
     {
         of_bits(high8(item))
     }
 
     pub fn takes(v: i64) -> bool
-        ensures { λ r. ⌜ r ≡ taken Primitive.Timestamp v ⌝ }
+        ensures { λ r. ⌜ Takes Primitive.Timestamp v r ⌝ }
     {
         mag_of(v) < 0x8000_0000_0000_0000
     }
@@ -192,19 +189,19 @@ impl TimestampTzKind {
     pub const DEFAULT_VALUE: i64 = 0;
 
     pub fn encode(v: i64) -> [u8; 8]
-        ensures { λ r. ⌜ r ≡ inEight (encoded Primitive.TimestampTz v) ⌝ }
+        ensures { λ r. ⌜ Encodes Primitive.TimestampTz v r ⌝ }
     {
         high_first(bits_of(v))
     }
 
     pub fn decode(item: [u8; 8]) -> i64
-        ensures { λ r. ⌜ r ≡ decoded Primitive.TimestampTz (take 8 item) ⌝ }
+        ensures { λ r. ⌜ Decodes Primitive.TimestampTz item r ⌝ }
     {
         of_bits(high8(item))
     }
 
     pub fn takes(v: i64) -> bool
-        ensures { λ r. ⌜ r ≡ taken Primitive.TimestampTz v ⌝ }
+        ensures { λ r. ⌜ Takes Primitive.TimestampTz v r ⌝ }
     {
         mag_of(v) < 0x8000_0000_0000_0000
     }
@@ -219,19 +216,19 @@ impl IntervalKind {
     pub const DEFAULT_VALUE: i64 = 0;
 
     pub fn encode(v: i64) -> [u8; 8]
-        ensures { λ r. ⌜ r ≡ inEight (encoded Primitive.Interval v) ⌝ }
+        ensures { λ r. ⌜ Encodes Primitive.Interval v r ⌝ }
     {
         high_first(bits_of(v))
     }
 
     pub fn decode(item: [u8; 8]) -> i64
-        ensures { λ r. ⌜ r ≡ decoded Primitive.Interval (take 8 item) ⌝ }
+        ensures { λ r. ⌜ Decodes Primitive.Interval item r ⌝ }
     {
         of_bits(high8(item))
     }
 
     pub fn takes(v: i64) -> bool
-        ensures { λ r. ⌜ r ≡ taken Primitive.Interval v ⌝ }
+        ensures { λ r. ⌜ Takes Primitive.Interval v r ⌝ }
     {
         mag_of(v) < 0x8000_0000_0000_0000
     }

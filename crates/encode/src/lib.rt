@@ -17,7 +17,7 @@ ghost use mir.Val.{ofZ, toZ};
 ghost use lib.Signed.{mag};
 ghost use lib.ListN.{take};
 ghost use Rattle.encode.specs.Bytes.{low-first, high-first, little, big, inEight, numberOf};
-ghost use Rattle.encode.specs.Kinds.{shapeOf, widthOf, defaultValue, encoded, decoded, takes as taken, kindOf};
+ghost use Rattle.encode.specs.Promises.{Encodes, Decodes, Takes, Shaped, Wide, Default, Names};
 
 // The kinds of fixed width: bool, i16, i32, i64, Date, Timestamp, TimestampTz and Interval.
 pub enum Primitive {
@@ -242,7 +242,7 @@ pub fn high8(item: [u8; 8]) -> u64
 impl Primitive {
     // The layout of its items: code that asks for no more than that goes by the shapes.
     pub fn shape(self) -> Shape
-        ensures { λ r. ⌜ r ≡ shapeOf self ⌝ }
+        ensures { λ r. ⌜ Shaped self r ⌝ }
     {
         match self {
             Primitive::Bool => Shape::Bool,
@@ -257,7 +257,7 @@ impl Primitive {
     }
 
     pub fn width(self) -> usize
-        ensures { λ r. ⌜ r ≡ widthOf self ⌝ }
+        ensures { λ r. ⌜ Wide self r ⌝ }
     {
         match self {
             Primitive::Bool => BoolKind::WIDTH,
@@ -273,7 +273,7 @@ impl Primitive {
 
     // What a plain block stores for a null.
     pub fn default_value(self) -> i64
-        ensures { λ r. ⌜ r ≡ defaultValue ⌝ }
+        ensures { λ r. ⌜ Default self r ⌝ }
     {
         match self {
             Primitive::Bool => BoolKind::DEFAULT_VALUE,
@@ -288,7 +288,7 @@ impl Primitive {
     }
 
     pub fn encode(self, v: i64) -> [u8; 8]
-        ensures { λ r. ⌜ r ≡ inEight (encoded self v) ⌝ }
+        ensures { λ r. ⌜ Encodes self v r ⌝ }
     {
         match self {
             Primitive::Bool => BoolKind::encode(v),
@@ -303,7 +303,7 @@ impl Primitive {
     }
 
     pub fn decode(self, item: [u8; 8]) -> i64
-        ensures { λ r. ⌜ r ≡ decoded self (take (widthOf self) item) ⌝ }
+        ensures { λ r. ⌜ Decodes self item r ⌝ }
     {
         match self {
             Primitive::Bool => BoolKind::decode(item),
@@ -318,7 +318,7 @@ impl Primitive {
     }
 
     pub fn takes(self, v: i64) -> bool
-        ensures { λ r. ⌜ r ≡ taken self v ⌝ }
+        ensures { λ r. ⌜ Takes self v r ⌝ }
     {
         match self {
             Primitive::Bool => BoolKind::takes(v),
@@ -335,7 +335,7 @@ impl Primitive {
 
 // The kind of a number and a width. The width is 0 for every kind but char.
 pub fn kind_of(kind: usize, width: usize) -> FoundKind
-    ensures { λ r. ⌜ r ≡ kindOf kind width ⌝ }
+    ensures { λ r. ⌜ Names kind width r ⌝ }
 {
     if kind == 8 {
         if width == 0 {

@@ -4,3 +4,4 @@ pub mod Writing
 pub mod Within
 pub mod RoundTrip
 pub mod Shortest
+pub mod Coincide

@@ -2,7 +2,8 @@
 ghost use mathlib.Core.Path.{_≡_};
 ghost use Prim.Native.Nat.{_+_, _*_, _<_, _≤_};
 ghost use lib.ListN.{length, getD};
-ghost use Rattle.varint.specs.Varint.{countAt, spelling, wrote, wroteOver};
+ghost use Rattle.varint.specs.Varint.{countAt};
+ghost use Rattle.varint.specs.Promises.{Decodes, Encodes, Sizes};
 
 // A run count, taken apart into its number and its length in bytes; or no count.
 pub enum Count {
@@ -18,7 +19,7 @@ pub enum Wrote {
 
 // The count at a place: at most five bytes, the fifth at most 0x0F.
 pub fn decode_u32(s: &[u8], at: usize) -> Count
-    ensures { λ r. ⌜ r ≡ countAt (now (s .entry)) at ⌝ }
+    ensures { λ r. ⌜ Decodes (now (s .entry)) at r ⌝ }
 {
     let n = s.len();
     if n <= at {
@@ -80,7 +81,7 @@ fn longer(s: &[u8], at: usize, low: u32) -> Count
 
 // The bytes of a number's shortest spelling.
 pub fn size(value: u32) -> usize
-    ensures { λ r. ⌜ r ≡ length (spelling value) ⌝ }
+    ensures { λ r. ⌜ Sizes value r ⌝ }
 {
     if value < 128 {
         return 1;
@@ -99,7 +100,7 @@ pub fn size(value: u32) -> usize
 
 // Writes the shortest spelling of `value` at `at`, or nothing where it doesn't fit.
 pub fn encode_u32(value: u32, dst: &mut [u8], at: usize) -> Wrote
-    ensures { λ r. ⌜ (r ≡ wrote (now (dst .entry)) at (spelling value)) × (now (dst .exit) ≡ wroteOver (now (dst .entry)) at (spelling value)) ⌝ }
+    ensures { λ r. ⌜ Encodes value (now (dst .entry)) at r (now (dst .exit)) ⌝ }
 {
     let n = size(value);
     if dst.len() < at {

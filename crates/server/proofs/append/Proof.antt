@@ -47,6 +47,8 @@ use denote.Signature.{Slot, plain}
 use denote.Ref.{now}
 use Rattle.append.specs.Appending.{Lent, lent}
 use Rattle.builder.specs.Building.{Append, appended}
+use Rattle.builder.specs.Promises.{Appends, answerOf}
+use Rattle.builder.proofs.Coincide.{appends}
 use Rattle.builder.specs.declared.Builder.{Builder}
 use Rattle.builder.specs.declared.Appended.{Appended}
 use Rattle.walk.proofs.Said.{stays-said, fits-said, goes-said}
@@ -145,6 +147,19 @@ module _ {M : Type 1} (𝓤 : URA M) (H : Heap 𝓤) (A : Atoms 𝓤) (W : Given
   abbrev E6 : Appended → Lasts g.ended (κs .1) cargs → Type 0
   E6 r zs = zs .1 .1 .1 .1 .1 .1 .0 ≡ appended h (lent (now (a .1 .0)) (now (a .1 .1 .0)) (now (a .1 .1 .1 .0)) (now (a .1 .1 .1 .1 .0)) (now (a .1 .1 .1 .1 .1 .0)) (now (a .1 .1 .1 .1 .1 .1 .0))) (a .1 .1 .1 .1 .1 .1 .1 .0) (a .1 .1 .1 .1 .1 .1 .1 .1 .0) (now (a .1 .1 .1 .1 .1 .1 .1 .1 .1 .0)) .areas .lens
 
+  -- what the caller is promised, of the record behind the reference and the areas
+  abbrev given : Lent
+  given = lent (now (a .1 .0)) (now (a .1 .1 .0)) (now (a .1 .1 .1 .0)) (now (a .1 .1 .1 .1 .0)) (now (a .1 .1 .1 .1 .1 .0)) (now (a .1 .1 .1 .1 .1 .1 .0))
+
+  abbrev left : Lasts g.ended (κs .1) cargs → Lent
+  left zs = lent (zs .1 .0) (zs .1 .1 .0) (zs .1 .1 .1 .0) (zs .1 .1 .1 .1 .0) (zs .1 .1 .1 .1 .1 .0) (zs .1 .1 .1 .1 .1 .1 .0)
+
+  abbrev Promised : Appended → Lasts g.ended (κs .1) cargs → Type 0
+  Promised r zs = Appends h given (a .1 .1 .1 .1 .1 .1 .1 .0) (a .1 .1 .1 .1 .1 .1 .1 .1 .0) (now (a .1 .1 .1 .1 .1 .1 .1 .1 .1 .0)) (answerOf (r .number) (r .builder)) (left zs)
+
+  promised : (r : Appended) (zs : Lasts g.ended (κs .1) cargs) → E0 r zs → E1 r zs → E2 r zs → E3 r zs → E4 r zs → E5 r zs → E6 r zs → Promised r zs
+  promised r zs e0 e1 e2 e3 e4 e5 e6 = appends h given _ _ _ r _ _ _ _ _ _ e0 e1 e2 e3 e4 e5 e6
+
   exits : (r : Appended) (zs : Lasts g.ended (κs .1) cargs) → r .number < 2 ^ 8 → E0 r zs → E1 r zs → E2 r zs → E3 r zs → E4 r zs → E5 r zs → E6 r zs
       → ent 𝓤 (⋆ 𝓤 H A (‵ (fobs γ (T.the-row .coded .code (r .builder))) ∷ ‵ (fbor (κs .0) (Body (mem T.the-row) b o γ)) ∷ ‵ (flft (κs .0) (qs .0)) ∷ raw Toks ∷ ‵ (lastsOf κs tail-slots (f.ended .kept .1) (a .1) (zs .1)) ∷ [])) (Post (vint w8 (r .number)))
   exits r zs fits e0 e1 e2 e3 e4 e5 e6 =
@@ -153,14 +168,7 @@ module _ {M : Type 1} (𝓤 : URA M) (H : Heap 𝓤) (A : Atoms 𝓤) (W : Given
       owned ! u8 (Is u8) (uint-makes 𝓤 H A W w8) (r .number) _ (refl, fits) $ feqI ! (List Val) (vptr b o ∷ []) (vptr b o ∷ []) refl $
       -- [the pointer is what was passed; what the result owns; obs; the borrow; its token; the other tokens; what is said of the last values]
       move ! (0 ∷ 2 ∷ 3 ∷ []) $ fjoin3 ! $ move ! (0 ∷ 4 ∷ []) $ fjoin ! $ move ! (2 ∷ 3 ∷ []) $ join ! $ group ! 3 $ frame ! $
-      use0 W (raw (fact 𝓤 (zs .1 .1 .1 .1 .1 .1 .0 ≡ appended h (lent (now (a .1 .0)) (now (a .1 .1 .0)) (now (a .1 .1 .1 .0)) (now (a .1 .1 .1 .1 .0)) (now (a .1 .1 .1 .1 .1 .0)) (now (a .1 .1 .1 .1 .1 .1 .0))) (a .1 .1 .1 .1 .1 .1 .1 .0) (a .1 .1 .1 .1 .1 .1 .1 .1 .0) (now (a .1 .1 .1 .1 .1 .1 .1 .1 .1 .0)) .areas .lens))) (factI 𝓤 (zs .1 .1 .1 .1 .1 .1 .0 ≡ appended h (lent (now (a .1 .0)) (now (a .1 .1 .0)) (now (a .1 .1 .1 .0)) (now (a .1 .1 .1 .1 .0)) (now (a .1 .1 .1 .1 .1 .0)) (now (a .1 .1 .1 .1 .1 .1 .0))) (a .1 .1 .1 .1 .1 .1 .1 .0) (a .1 .1 .1 .1 .1 .1 .1 .1 .0) (now (a .1 .1 .1 .1 .1 .1 .1 .1 .1 .0)) .areas .lens) (emp 𝓤) (e6)) $
-      use0 W (raw (fact 𝓤 (zs .1 .1 .1 .1 .1 .0 ≡ appended h (lent (now (a .1 .0)) (now (a .1 .1 .0)) (now (a .1 .1 .1 .0)) (now (a .1 .1 .1 .1 .0)) (now (a .1 .1 .1 .1 .1 .0)) (now (a .1 .1 .1 .1 .1 .1 .0))) (a .1 .1 .1 .1 .1 .1 .1 .0) (a .1 .1 .1 .1 .1 .1 .1 .1 .0) (now (a .1 .1 .1 .1 .1 .1 .1 .1 .1 .0)) .areas .keys))) (factI 𝓤 (zs .1 .1 .1 .1 .1 .0 ≡ appended h (lent (now (a .1 .0)) (now (a .1 .1 .0)) (now (a .1 .1 .1 .0)) (now (a .1 .1 .1 .1 .0)) (now (a .1 .1 .1 .1 .1 .0)) (now (a .1 .1 .1 .1 .1 .1 .0))) (a .1 .1 .1 .1 .1 .1 .1 .0) (a .1 .1 .1 .1 .1 .1 .1 .1 .0) (now (a .1 .1 .1 .1 .1 .1 .1 .1 .1 .0)) .areas .keys) (emp 𝓤) (e5)) $
-      use0 W (raw (fact 𝓤 (zs .1 .1 .1 .1 .0 ≡ appended h (lent (now (a .1 .0)) (now (a .1 .1 .0)) (now (a .1 .1 .1 .0)) (now (a .1 .1 .1 .1 .0)) (now (a .1 .1 .1 .1 .1 .0)) (now (a .1 .1 .1 .1 .1 .1 .0))) (a .1 .1 .1 .1 .1 .1 .1 .0) (a .1 .1 .1 .1 .1 .1 .1 .1 .0) (now (a .1 .1 .1 .1 .1 .1 .1 .1 .1 .0)) .areas .counts))) (factI 𝓤 (zs .1 .1 .1 .1 .0 ≡ appended h (lent (now (a .1 .0)) (now (a .1 .1 .0)) (now (a .1 .1 .1 .0)) (now (a .1 .1 .1 .1 .0)) (now (a .1 .1 .1 .1 .1 .0)) (now (a .1 .1 .1 .1 .1 .1 .0))) (a .1 .1 .1 .1 .1 .1 .1 .0) (a .1 .1 .1 .1 .1 .1 .1 .1 .0) (now (a .1 .1 .1 .1 .1 .1 .1 .1 .1 .0)) .areas .counts) (emp 𝓤) (e4)) $
-      use0 W (raw (fact 𝓤 (zs .1 .1 .1 .0 ≡ appended h (lent (now (a .1 .0)) (now (a .1 .1 .0)) (now (a .1 .1 .1 .0)) (now (a .1 .1 .1 .1 .0)) (now (a .1 .1 .1 .1 .1 .0)) (now (a .1 .1 .1 .1 .1 .1 .0))) (a .1 .1 .1 .1 .1 .1 .1 .0) (a .1 .1 .1 .1 .1 .1 .1 .1 .0) (now (a .1 .1 .1 .1 .1 .1 .1 .1 .1 .0)) .areas .flags))) (factI 𝓤 (zs .1 .1 .1 .0 ≡ appended h (lent (now (a .1 .0)) (now (a .1 .1 .0)) (now (a .1 .1 .1 .0)) (now (a .1 .1 .1 .1 .0)) (now (a .1 .1 .1 .1 .1 .0)) (now (a .1 .1 .1 .1 .1 .1 .0))) (a .1 .1 .1 .1 .1 .1 .1 .0) (a .1 .1 .1 .1 .1 .1 .1 .1 .0) (now (a .1 .1 .1 .1 .1 .1 .1 .1 .1 .0)) .areas .flags) (emp 𝓤) (e3)) $
-      use0 W (raw (fact 𝓤 (zs .1 .1 .0 ≡ appended h (lent (now (a .1 .0)) (now (a .1 .1 .0)) (now (a .1 .1 .1 .0)) (now (a .1 .1 .1 .1 .0)) (now (a .1 .1 .1 .1 .1 .0)) (now (a .1 .1 .1 .1 .1 .1 .0))) (a .1 .1 .1 .1 .1 .1 .1 .0) (a .1 .1 .1 .1 .1 .1 .1 .1 .0) (now (a .1 .1 .1 .1 .1 .1 .1 .1 .1 .0)) .areas .ends))) (factI 𝓤 (zs .1 .1 .0 ≡ appended h (lent (now (a .1 .0)) (now (a .1 .1 .0)) (now (a .1 .1 .1 .0)) (now (a .1 .1 .1 .1 .0)) (now (a .1 .1 .1 .1 .1 .0)) (now (a .1 .1 .1 .1 .1 .1 .0))) (a .1 .1 .1 .1 .1 .1 .1 .0) (a .1 .1 .1 .1 .1 .1 .1 .1 .0) (now (a .1 .1 .1 .1 .1 .1 .1 .1 .1 .0)) .areas .ends) (emp 𝓤) (e2)) $
-      use0 W (raw (fact 𝓤 (zs .1 .0 ≡ appended h (lent (now (a .1 .0)) (now (a .1 .1 .0)) (now (a .1 .1 .1 .0)) (now (a .1 .1 .1 .1 .0)) (now (a .1 .1 .1 .1 .1 .0)) (now (a .1 .1 .1 .1 .1 .1 .0))) (a .1 .1 .1 .1 .1 .1 .1 .0) (a .1 .1 .1 .1 .1 .1 .1 .1 .0) (now (a .1 .1 .1 .1 .1 .1 .1 .1 .1 .0)) .areas .items))) (factI 𝓤 (zs .1 .0 ≡ appended h (lent (now (a .1 .0)) (now (a .1 .1 .0)) (now (a .1 .1 .1 .0)) (now (a .1 .1 .1 .1 .0)) (now (a .1 .1 .1 .1 .1 .0)) (now (a .1 .1 .1 .1 .1 .1 .0))) (a .1 .1 .1 .1 .1 .1 .1 .0) (a .1 .1 .1 .1 .1 .1 .1 .1 .0) (now (a .1 .1 .1 .1 .1 .1 .1 .1 .1 .0)) .areas .items) (emp 𝓤) (e1)) $
-      use0 W (raw (fact 𝓤 (r .builder ≡ appended h (lent (now (a .1 .0)) (now (a .1 .1 .0)) (now (a .1 .1 .1 .0)) (now (a .1 .1 .1 .1 .0)) (now (a .1 .1 .1 .1 .1 .0)) (now (a .1 .1 .1 .1 .1 .1 .0))) (a .1 .1 .1 .1 .1 .1 .1 .0) (a .1 .1 .1 .1 .1 .1 .1 .1 .0) (now (a .1 .1 .1 .1 .1 .1 .1 .1 .1 .0)) .answer .builder))) (factI 𝓤 (r .builder ≡ appended h (lent (now (a .1 .0)) (now (a .1 .1 .0)) (now (a .1 .1 .1 .0)) (now (a .1 .1 .1 .1 .0)) (now (a .1 .1 .1 .1 .1 .0)) (now (a .1 .1 .1 .1 .1 .1 .0))) (a .1 .1 .1 .1 .1 .1 .1 .0) (a .1 .1 .1 .1 .1 .1 .1 .1 .0) (now (a .1 .1 .1 .1 .1 .1 .1 .1 .1 .0)) .answer .builder) (emp 𝓤) (ap (λ (z : Appended). z .builder) e0)) $
-      use0 W (raw (fact 𝓤 (r .number ≡ appended h (lent (now (a .1 .0)) (now (a .1 .1 .0)) (now (a .1 .1 .1 .0)) (now (a .1 .1 .1 .1 .0)) (now (a .1 .1 .1 .1 .1 .0)) (now (a .1 .1 .1 .1 .1 .1 .0))) (a .1 .1 .1 .1 .1 .1 .1 .0) (a .1 .1 .1 .1 .1 .1 .1 .1 .0) (now (a .1 .1 .1 .1 .1 .1 .1 .1 .1 .0)) .answer .number))) (factI 𝓤 (r .number ≡ appended h (lent (now (a .1 .0)) (now (a .1 .1 .0)) (now (a .1 .1 .1 .0)) (now (a .1 .1 .1 .1 .0)) (now (a .1 .1 .1 .1 .1 .0)) (now (a .1 .1 .1 .1 .1 .1 .0))) (a .1 .1 .1 .1 .1 .1 .1 .0) (a .1 .1 .1 .1 .1 .1 .1 .1 .0) (now (a .1 .1 .1 .1 .1 .1 .1 .1 .1 .0)) .answer .number) (emp 𝓤) (ap (λ (z : Appended). z .number) e0)) $ done !
+      use0 W (raw (fact 𝓤 (Promised r zs))) (factI 𝓤 (Promised r zs) (emp 𝓤) (promised r zs e0 e1 e2 e3 e4 e5 e6)) $ done !
 
   -- what whoever holds the result knows of its parts
   num-fits : (r : Appended) (w : Val) → Is S.the-row r (w ∷ []) → r .number < 2 ^ 8

@@ -50,7 +50,7 @@ use denote.Triple.Table.{entered, cited}
 use denote.Triple.Walked.{Stays, walkOf, AllGo, Walks, ends-at, walked, walk-meets}
 use denote.Signature.{Slot, plain, namedLft}
 use Rattle.append.specs.Appending.{Lent, lent}
-use Rattle.builder.specs.Building.{Append, appended}
+use Rattle.builder.specs.Promises.{Appends, answerOf}
 use Rattle.walk.proofs.Lent.{lends-cell, cell-back}
 use Rattle.walk.proofs.Said.{stays-said, fits-said, goes-said}
 use Rattle.builder.specs.declared.Builder.{Builder}
@@ -101,6 +101,15 @@ module _ {M : Type 1} (𝓤 : URA M) (H : Heap 𝓤) (A : Atoms 𝓤) (W : Given
   abbrev Post : Val → SProp 𝓤
   Post = walkOf 𝓤 H A f.ended stayed (f.clauses 𝓤 H A mem run) .post ((κs, qs, bounds, a, vals), tt)
 
+  abbrev made : ℕ → Builder → Appended
+  made n h = answerOf n h
+
+  -- what is promised of the number, the record and the areas
+  abbrev Promised : ℕ → Builder → Fins κs tail-slots (f.ended .kept .1) (a .1) → Type 0
+  Promised n h zs =
+      Appends (a .0) (lent (now (a .1 .0)) (now (a .1 .1 .0)) (now (a .1 .1 .1 .0)) (now (a .1 .1 .1 .1 .0)) (now (a .1 .1 .1 .1 .1 .0)) (now (a .1 .1 .1 .1 .1 .1 .0))) (a .1 .1 .1 .1 .1 .1 .1 .0) (a .1 .1 .1 .1 .1 .1 .1 .1 .0) (now (a .1 .1 .1 .1 .1 .1 .1 .1 .1 .0)) (made n h)
+      (lent (zs .0) (zs .1 .0) (zs .1 .1 .0) (zs .1 .1 .1 .0) (zs .1 .1 .1 .1 .0) (zs .1 .1 .1 .1 .1 .0))
+
   module _ (ν : Lft) (l : ℕ) (γ : GName) where
     -- what the callee's triple binds outside: the record in the local l, lent for ν under γ, and all that was passed beside it
     abbrev cargs : Args g.signature (ν, κs)
@@ -113,52 +122,22 @@ module _ {M : Type 1} (𝓤 : URA M) (H : Heap 𝓤) (A : Atoms 𝓤) (W : Given
     asks = qed W (‵ (flft ν fullShare) ∷ raw Toks ∷ ‵ (MutRef (named 0) ν T.the-row .own (record { ptr = (l, 0); name = γ; now = a .0 }) (vptr l 0 ∷ [])) ∷ ‵ (owns (MutSlice (named 0) (κs .0) u8 ∷ MutSlice (named 1) (κs .1 .0) u32 ∷ MutSlice (named 2) (κs .1 .1 .0) u8 ∷ MutSlice (named 3) (κs .1 .1 .1 .0) u32 ∷ MutSlice (named 4) (κs .1 .1 .1 .1 .0) i32 ∷ MutSlice (named 5) (κs .1 .1 .1 .1 .1 .0) u8 ∷ bool ∷ i64 ∷ ShrSlice (named 6) (κs .1 .1 .1 .1 .1 .1 .0) u8 ∷ []) (a .1) (vals .1)) ∷ []) ∵ join ! $ move ! (1 ∷ 2 ∷ []) $ fjoin ! $ move ! (1 ∷ 0 ∷ []) $ join ! $ frame ! $ done !
 
     -- what the callee ensures
-    abbrev E0 : ℕ → Lasts g.ended (ν, κs) cargs → Type 0
-    E0 n zs = n ≡ appended (a .0) (lent (now (a .1 .0)) (now (a .1 .1 .0)) (now (a .1 .1 .1 .0)) (now (a .1 .1 .1 .1 .0)) (now (a .1 .1 .1 .1 .1 .0)) (now (a .1 .1 .1 .1 .1 .1 .0))) (a .1 .1 .1 .1 .1 .1 .1 .0) (a .1 .1 .1 .1 .1 .1 .1 .1 .0) (now (a .1 .1 .1 .1 .1 .1 .1 .1 .1 .0)) .answer .number
-
-    abbrev E1 : ℕ → Lasts g.ended (ν, κs) cargs → Type 0
-    E1 n zs = zs .0 ≡ appended (a .0) (lent (now (a .1 .0)) (now (a .1 .1 .0)) (now (a .1 .1 .1 .0)) (now (a .1 .1 .1 .1 .0)) (now (a .1 .1 .1 .1 .1 .0)) (now (a .1 .1 .1 .1 .1 .1 .0))) (a .1 .1 .1 .1 .1 .1 .1 .0) (a .1 .1 .1 .1 .1 .1 .1 .1 .0) (now (a .1 .1 .1 .1 .1 .1 .1 .1 .1 .0)) .answer .builder
-
-    abbrev E2 : ℕ → Lasts g.ended (ν, κs) cargs → Type 0
-    E2 n zs = zs .1 .0 ≡ appended (a .0) (lent (now (a .1 .0)) (now (a .1 .1 .0)) (now (a .1 .1 .1 .0)) (now (a .1 .1 .1 .1 .0)) (now (a .1 .1 .1 .1 .1 .0)) (now (a .1 .1 .1 .1 .1 .1 .0))) (a .1 .1 .1 .1 .1 .1 .1 .0) (a .1 .1 .1 .1 .1 .1 .1 .1 .0) (now (a .1 .1 .1 .1 .1 .1 .1 .1 .1 .0)) .areas .items
-
-    abbrev E3 : ℕ → Lasts g.ended (ν, κs) cargs → Type 0
-    E3 n zs = zs .1 .1 .0 ≡ appended (a .0) (lent (now (a .1 .0)) (now (a .1 .1 .0)) (now (a .1 .1 .1 .0)) (now (a .1 .1 .1 .1 .0)) (now (a .1 .1 .1 .1 .1 .0)) (now (a .1 .1 .1 .1 .1 .1 .0))) (a .1 .1 .1 .1 .1 .1 .1 .0) (a .1 .1 .1 .1 .1 .1 .1 .1 .0) (now (a .1 .1 .1 .1 .1 .1 .1 .1 .1 .0)) .areas .ends
-
-    abbrev E4 : ℕ → Lasts g.ended (ν, κs) cargs → Type 0
-    E4 n zs = zs .1 .1 .1 .0 ≡ appended (a .0) (lent (now (a .1 .0)) (now (a .1 .1 .0)) (now (a .1 .1 .1 .0)) (now (a .1 .1 .1 .1 .0)) (now (a .1 .1 .1 .1 .1 .0)) (now (a .1 .1 .1 .1 .1 .1 .0))) (a .1 .1 .1 .1 .1 .1 .1 .0) (a .1 .1 .1 .1 .1 .1 .1 .1 .0) (now (a .1 .1 .1 .1 .1 .1 .1 .1 .1 .0)) .areas .flags
-
-    abbrev E5 : ℕ → Lasts g.ended (ν, κs) cargs → Type 0
-    E5 n zs = zs .1 .1 .1 .1 .0 ≡ appended (a .0) (lent (now (a .1 .0)) (now (a .1 .1 .0)) (now (a .1 .1 .1 .0)) (now (a .1 .1 .1 .1 .0)) (now (a .1 .1 .1 .1 .1 .0)) (now (a .1 .1 .1 .1 .1 .1 .0))) (a .1 .1 .1 .1 .1 .1 .1 .0) (a .1 .1 .1 .1 .1 .1 .1 .1 .0) (now (a .1 .1 .1 .1 .1 .1 .1 .1 .1 .0)) .areas .counts
-
-    abbrev E6 : ℕ → Lasts g.ended (ν, κs) cargs → Type 0
-    E6 n zs = zs .1 .1 .1 .1 .1 .0 ≡ appended (a .0) (lent (now (a .1 .0)) (now (a .1 .1 .0)) (now (a .1 .1 .1 .0)) (now (a .1 .1 .1 .1 .0)) (now (a .1 .1 .1 .1 .1 .0)) (now (a .1 .1 .1 .1 .1 .1 .0))) (a .1 .1 .1 .1 .1 .1 .1 .0) (a .1 .1 .1 .1 .1 .1 .1 .1 .0) (now (a .1 .1 .1 .1 .1 .1 .1 .1 .1 .0)) .areas .keys
-
-    abbrev E7 : ℕ → Lasts g.ended (ν, κs) cargs → Type 0
-    E7 n zs = zs .1 .1 .1 .1 .1 .1 .0 ≡ appended (a .0) (lent (now (a .1 .0)) (now (a .1 .1 .0)) (now (a .1 .1 .1 .0)) (now (a .1 .1 .1 .1 .0)) (now (a .1 .1 .1 .1 .1 .0)) (now (a .1 .1 .1 .1 .1 .1 .0))) (a .1 .1 .1 .1 .1 .1 .1 .0) (a .1 .1 .1 .1 .1 .1 .1 .1 .0) (now (a .1 .1 .1 .1 .1 .1 .1 .1 .1 .0)) .areas .lens
-
-  abbrev made : ℕ → Builder → Appended
-  made n h = record { number = n; builder = h }
+    abbrev E : ℕ → Lasts g.ended (ν, κs) cargs → Type 0
+    E n zs = Promised n (zs .0) (zs .1)
 
   made-is : (n : ℕ) (h : Builder) → n < 2 ^ 8 → Is T.the-row h (low h ∷ []) → Is S.the-row (made n h) (LL.val S.the-type S′.the-laws (made n h) ∷ [])
   made-is n h fits is = LL.owes S.the-type S′.the-laws (made n h) ((refl, fits), (is, tt))
 
-  exits : (n : ℕ) (h : Builder) (zs : Fins κs tail-slots (f.ended .kept .1) (a .1)) → n < 2 ^ 8 → Is T.the-row h (low h ∷ []) → n ≡ appended (a .0) (lent (now (a .1 .0)) (now (a .1 .1 .0)) (now (a .1 .1 .1 .0)) (now (a .1 .1 .1 .1 .0)) (now (a .1 .1 .1 .1 .1 .0)) (now (a .1 .1 .1 .1 .1 .1 .0))) (a .1 .1 .1 .1 .1 .1 .1 .0) (a .1 .1 .1 .1 .1 .1 .1 .1 .0) (now (a .1 .1 .1 .1 .1 .1 .1 .1 .1 .0)) .answer .number → h ≡ appended (a .0) (lent (now (a .1 .0)) (now (a .1 .1 .0)) (now (a .1 .1 .1 .0)) (now (a .1 .1 .1 .1 .0)) (now (a .1 .1 .1 .1 .1 .0)) (now (a .1 .1 .1 .1 .1 .1 .0))) (a .1 .1 .1 .1 .1 .1 .1 .0) (a .1 .1 .1 .1 .1 .1 .1 .1 .0) (now (a .1 .1 .1 .1 .1 .1 .1 .1 .1 .0)) .answer .builder → zs .0 ≡ appended (a .0) (lent (now (a .1 .0)) (now (a .1 .1 .0)) (now (a .1 .1 .1 .0)) (now (a .1 .1 .1 .1 .0)) (now (a .1 .1 .1 .1 .1 .0)) (now (a .1 .1 .1 .1 .1 .1 .0))) (a .1 .1 .1 .1 .1 .1 .1 .0) (a .1 .1 .1 .1 .1 .1 .1 .1 .0) (now (a .1 .1 .1 .1 .1 .1 .1 .1 .1 .0)) .areas .items → zs .1 .0 ≡ appended (a .0) (lent (now (a .1 .0)) (now (a .1 .1 .0)) (now (a .1 .1 .1 .0)) (now (a .1 .1 .1 .1 .0)) (now (a .1 .1 .1 .1 .1 .0)) (now (a .1 .1 .1 .1 .1 .1 .0))) (a .1 .1 .1 .1 .1 .1 .1 .0) (a .1 .1 .1 .1 .1 .1 .1 .1 .0) (now (a .1 .1 .1 .1 .1 .1 .1 .1 .1 .0)) .areas .ends → zs .1 .1 .0 ≡ appended (a .0) (lent (now (a .1 .0)) (now (a .1 .1 .0)) (now (a .1 .1 .1 .0)) (now (a .1 .1 .1 .1 .0)) (now (a .1 .1 .1 .1 .1 .0)) (now (a .1 .1 .1 .1 .1 .1 .0))) (a .1 .1 .1 .1 .1 .1 .1 .0) (a .1 .1 .1 .1 .1 .1 .1 .1 .0) (now (a .1 .1 .1 .1 .1 .1 .1 .1 .1 .0)) .areas .flags → zs .1 .1 .1 .0 ≡ appended (a .0) (lent (now (a .1 .0)) (now (a .1 .1 .0)) (now (a .1 .1 .1 .0)) (now (a .1 .1 .1 .1 .0)) (now (a .1 .1 .1 .1 .1 .0)) (now (a .1 .1 .1 .1 .1 .1 .0))) (a .1 .1 .1 .1 .1 .1 .1 .0) (a .1 .1 .1 .1 .1 .1 .1 .1 .0) (now (a .1 .1 .1 .1 .1 .1 .1 .1 .1 .0)) .areas .counts → zs .1 .1 .1 .1 .0 ≡ appended (a .0) (lent (now (a .1 .0)) (now (a .1 .1 .0)) (now (a .1 .1 .1 .0)) (now (a .1 .1 .1 .1 .0)) (now (a .1 .1 .1 .1 .1 .0)) (now (a .1 .1 .1 .1 .1 .1 .0))) (a .1 .1 .1 .1 .1 .1 .1 .0) (a .1 .1 .1 .1 .1 .1 .1 .1 .0) (now (a .1 .1 .1 .1 .1 .1 .1 .1 .1 .0)) .areas .keys → zs .1 .1 .1 .1 .1 .0 ≡ appended (a .0) (lent (now (a .1 .0)) (now (a .1 .1 .0)) (now (a .1 .1 .1 .0)) (now (a .1 .1 .1 .1 .0)) (now (a .1 .1 .1 .1 .1 .0)) (now (a .1 .1 .1 .1 .1 .1 .0))) (a .1 .1 .1 .1 .1 .1 .1 .0) (a .1 .1 .1 .1 .1 .1 .1 .1 .0) (now (a .1 .1 .1 .1 .1 .1 .1 .1 .1 .0)) .areas .lens
+  exits : (n : ℕ) (h : Builder) (zs : Fins κs tail-slots (f.ended .kept .1) (a .1)) → n < 2 ^ 8 → Is T.the-row h (low h ∷ []) → Promised n h zs
       → ent 𝓤 (⋆ 𝓤 H A (raw Toks ∷ ‵ (lastsOf κs tail-slots (f.ended .kept .1) (a .1) zs) ∷ [])) (Post (LL.val S.the-type S′.the-laws (made n h)))
-  exits n h zs fits is e0 e1 e2 e3 e4 e5 e6 e7 =
+  exits n h zs fits is e =
       qed W (raw Toks ∷ ‵ (lastsOf κs tail-slots (f.ended .kept .1) (a .1) zs) ∷ []) ∵
       suffices ! _ (ends-at 𝓤 H A f.ended stayed (f.clauses 𝓤 H A mem run) W ((κs, qs, bounds, a, vals), tt) (LL.val S.the-type S′.the-laws (made n h)) (made n h) (tt, zs) (fits-said κs (f.signature .params) (f.ended .kept) a (tt, zs))) $
       owned ! S.the-row (Is S.the-row) (LL.makes S.the-type S′.the-plain 𝓤 H A) (made n h) _ (made-is n h fits is) $
       nothing ! $ move ! (0 ∷ 3 ∷ []) $ fjoin ! $
       -- [what is said of the last values; the result; the tokens]
       move ! (2 ∷ 0 ∷ 1 ∷ []) $ group ! 3 $ frame ! $
-      use0 W (raw (fact 𝓤 (zs .1 .1 .1 .1 .1 .0 ≡ appended (a .0) (lent (now (a .1 .0)) (now (a .1 .1 .0)) (now (a .1 .1 .1 .0)) (now (a .1 .1 .1 .1 .0)) (now (a .1 .1 .1 .1 .1 .0)) (now (a .1 .1 .1 .1 .1 .1 .0))) (a .1 .1 .1 .1 .1 .1 .1 .0) (a .1 .1 .1 .1 .1 .1 .1 .1 .0) (now (a .1 .1 .1 .1 .1 .1 .1 .1 .1 .0)) .areas .lens))) (factI 𝓤 (zs .1 .1 .1 .1 .1 .0 ≡ appended (a .0) (lent (now (a .1 .0)) (now (a .1 .1 .0)) (now (a .1 .1 .1 .0)) (now (a .1 .1 .1 .1 .0)) (now (a .1 .1 .1 .1 .1 .0)) (now (a .1 .1 .1 .1 .1 .1 .0))) (a .1 .1 .1 .1 .1 .1 .1 .0) (a .1 .1 .1 .1 .1 .1 .1 .1 .0) (now (a .1 .1 .1 .1 .1 .1 .1 .1 .1 .0)) .areas .lens) (emp 𝓤) (e7)) $
-      use0 W (raw (fact 𝓤 (zs .1 .1 .1 .1 .0 ≡ appended (a .0) (lent (now (a .1 .0)) (now (a .1 .1 .0)) (now (a .1 .1 .1 .0)) (now (a .1 .1 .1 .1 .0)) (now (a .1 .1 .1 .1 .1 .0)) (now (a .1 .1 .1 .1 .1 .1 .0))) (a .1 .1 .1 .1 .1 .1 .1 .0) (a .1 .1 .1 .1 .1 .1 .1 .1 .0) (now (a .1 .1 .1 .1 .1 .1 .1 .1 .1 .0)) .areas .keys))) (factI 𝓤 (zs .1 .1 .1 .1 .0 ≡ appended (a .0) (lent (now (a .1 .0)) (now (a .1 .1 .0)) (now (a .1 .1 .1 .0)) (now (a .1 .1 .1 .1 .0)) (now (a .1 .1 .1 .1 .1 .0)) (now (a .1 .1 .1 .1 .1 .1 .0))) (a .1 .1 .1 .1 .1 .1 .1 .0) (a .1 .1 .1 .1 .1 .1 .1 .1 .0) (now (a .1 .1 .1 .1 .1 .1 .1 .1 .1 .0)) .areas .keys) (emp 𝓤) (e6)) $
-      use0 W (raw (fact 𝓤 (zs .1 .1 .1 .0 ≡ appended (a .0) (lent (now (a .1 .0)) (now (a .1 .1 .0)) (now (a .1 .1 .1 .0)) (now (a .1 .1 .1 .1 .0)) (now (a .1 .1 .1 .1 .1 .0)) (now (a .1 .1 .1 .1 .1 .1 .0))) (a .1 .1 .1 .1 .1 .1 .1 .0) (a .1 .1 .1 .1 .1 .1 .1 .1 .0) (now (a .1 .1 .1 .1 .1 .1 .1 .1 .1 .0)) .areas .counts))) (factI 𝓤 (zs .1 .1 .1 .0 ≡ appended (a .0) (lent (now (a .1 .0)) (now (a .1 .1 .0)) (now (a .1 .1 .1 .0)) (now (a .1 .1 .1 .1 .0)) (now (a .1 .1 .1 .1 .1 .0)) (now (a .1 .1 .1 .1 .1 .1 .0))) (a .1 .1 .1 .1 .1 .1 .1 .0) (a .1 .1 .1 .1 .1 .1 .1 .1 .0) (now (a .1 .1 .1 .1 .1 .1 .1 .1 .1 .0)) .areas .counts) (emp 𝓤) (e5)) $
-      use0 W (raw (fact 𝓤 (zs .1 .1 .0 ≡ appended (a .0) (lent (now (a .1 .0)) (now (a .1 .1 .0)) (now (a .1 .1 .1 .0)) (now (a .1 .1 .1 .1 .0)) (now (a .1 .1 .1 .1 .1 .0)) (now (a .1 .1 .1 .1 .1 .1 .0))) (a .1 .1 .1 .1 .1 .1 .1 .0) (a .1 .1 .1 .1 .1 .1 .1 .1 .0) (now (a .1 .1 .1 .1 .1 .1 .1 .1 .1 .0)) .areas .flags))) (factI 𝓤 (zs .1 .1 .0 ≡ appended (a .0) (lent (now (a .1 .0)) (now (a .1 .1 .0)) (now (a .1 .1 .1 .0)) (now (a .1 .1 .1 .1 .0)) (now (a .1 .1 .1 .1 .1 .0)) (now (a .1 .1 .1 .1 .1 .1 .0))) (a .1 .1 .1 .1 .1 .1 .1 .0) (a .1 .1 .1 .1 .1 .1 .1 .1 .0) (now (a .1 .1 .1 .1 .1 .1 .1 .1 .1 .0)) .areas .flags) (emp 𝓤) (e4)) $
-      use0 W (raw (fact 𝓤 (zs .1 .0 ≡ appended (a .0) (lent (now (a .1 .0)) (now (a .1 .1 .0)) (now (a .1 .1 .1 .0)) (now (a .1 .1 .1 .1 .0)) (now (a .1 .1 .1 .1 .1 .0)) (now (a .1 .1 .1 .1 .1 .1 .0))) (a .1 .1 .1 .1 .1 .1 .1 .0) (a .1 .1 .1 .1 .1 .1 .1 .1 .0) (now (a .1 .1 .1 .1 .1 .1 .1 .1 .1 .0)) .areas .ends))) (factI 𝓤 (zs .1 .0 ≡ appended (a .0) (lent (now (a .1 .0)) (now (a .1 .1 .0)) (now (a .1 .1 .1 .0)) (now (a .1 .1 .1 .1 .0)) (now (a .1 .1 .1 .1 .1 .0)) (now (a .1 .1 .1 .1 .1 .1 .0))) (a .1 .1 .1 .1 .1 .1 .1 .0) (a .1 .1 .1 .1 .1 .1 .1 .1 .0) (now (a .1 .1 .1 .1 .1 .1 .1 .1 .1 .0)) .areas .ends) (emp 𝓤) (e3)) $
-      use0 W (raw (fact 𝓤 (zs .0 ≡ appended (a .0) (lent (now (a .1 .0)) (now (a .1 .1 .0)) (now (a .1 .1 .1 .0)) (now (a .1 .1 .1 .1 .0)) (now (a .1 .1 .1 .1 .1 .0)) (now (a .1 .1 .1 .1 .1 .1 .0))) (a .1 .1 .1 .1 .1 .1 .1 .0) (a .1 .1 .1 .1 .1 .1 .1 .1 .0) (now (a .1 .1 .1 .1 .1 .1 .1 .1 .1 .0)) .areas .items))) (factI 𝓤 (zs .0 ≡ appended (a .0) (lent (now (a .1 .0)) (now (a .1 .1 .0)) (now (a .1 .1 .1 .0)) (now (a .1 .1 .1 .1 .0)) (now (a .1 .1 .1 .1 .1 .0)) (now (a .1 .1 .1 .1 .1 .1 .0))) (a .1 .1 .1 .1 .1 .1 .1 .0) (a .1 .1 .1 .1 .1 .1 .1 .1 .0) (now (a .1 .1 .1 .1 .1 .1 .1 .1 .1 .0)) .areas .items) (emp 𝓤) (e2)) $
-      use0 W (raw (fact 𝓤 (made n h ≡ appended (a .0) (lent (now (a .1 .0)) (now (a .1 .1 .0)) (now (a .1 .1 .1 .0)) (now (a .1 .1 .1 .1 .0)) (now (a .1 .1 .1 .1 .1 .0)) (now (a .1 .1 .1 .1 .1 .1 .0))) (a .1 .1 .1 .1 .1 .1 .1 .0) (a .1 .1 .1 .1 .1 .1 .1 .1 .0) (now (a .1 .1 .1 .1 .1 .1 .1 .1 .1 .0)) .answer))) (factI 𝓤 (made n h ≡ appended (a .0) (lent (now (a .1 .0)) (now (a .1 .1 .0)) (now (a .1 .1 .1 .0)) (now (a .1 .1 .1 .1 .0)) (now (a .1 .1 .1 .1 .1 .0)) (now (a .1 .1 .1 .1 .1 .1 .0))) (a .1 .1 .1 .1 .1 .1 .1 .0) (a .1 .1 .1 .1 .1 .1 .1 .1 .0) (now (a .1 .1 .1 .1 .1 .1 .1 .1 .1 .0)) .answer) (emp 𝓤) (λ i. made (e0 i) (e1 i))) $ done !
+      use0 W (raw (fact 𝓤 (Promised n h zs))) (factI 𝓤 (Promised n h zs) (emp 𝓤) e) $ done !
 
   module _ (C : Calls 𝓤 H) (Λ : Loops 𝓤 H) (fm : FmC 𝓤 H (W .laws) C) (known-g : Triple 𝓤 (C #g) (G 𝓤 H A mem run)) (are : Are (Rs κs) (Ises (Rs κs)) a vals) where
     walk : ent 𝓤 (onEntry 𝓤 H A f.signature κs qs a vals) (WpFn 𝓤 H C Λ code.function passed Post)
@@ -188,8 +167,8 @@ module _ {M : Type 1} (𝓤 : URA M) (H : Heap 𝓤) (A : Atoms 𝓤) (W : Given
         move ! (2 ∷ 57 ∷ 0 ∷ 3 ∷ []) $ group ! 4 $ use1 W (raw (G 𝓤 H A mem run .pre (to-g (ν ∷ []) l11 γ))) (asks (ν ∷ []) l11 γ) $
         -- [pre; lent; L26; L25; L24; L23; L22; L21; L20; L19; L18; L17; L16; L15; L14; L13; L12; L10; L9; L8; L7; L6; L5; L4; L3; L2; L1; L0]
         calls-at ! fm (G 𝓤 H A mem run) known-g (to-g (ν ∷ []) l11 γ) (and-then ! (load ! (from ! (stop !)) (look ! 28 refl)) (and-then ! (load ! (from ! (stop !)) (look ! 24 refl)) (and-then ! (load ! (from ! (stop !)) (look ! 20 refl)) (and-then ! (load ! (from ! (stop !)) (look ! 16 refl)) (and-then ! (load ! (from ! (stop !)) (look ! 12 refl)) (and-then ! (load ! (from ! (stop !)) (look ! 8 refl)) (and-then ! (load ! (from ! (stop !)) (look ! 4 refl)) (and-then ! (load ! (from ! (stop !)) (look ! 37 refl)) (and-then ! (load ! (from ! (stop !)) (look ! 35 refl)) (and-then ! (load ! (from ! (stop !)) (look ! 33 refl)) (no-more !))))))))))) (λ u.
-        use1 W (later (some (λ (n : ℕ). ((‵ (flft (ν ∷ []) fullShare) ⊛ raw Toks) ⊛ ‵ (u8 .own n (u ∷ []))) ⊛ raw (ensured 𝓤 H A g.ended (g.clauses 𝓤 H A mem run) ((ν ∷ []), κs) (cargs (ν ∷ []) l11 γ) tt n)))) (id⊢ 𝓤 _) $ await ! tt $ pick ! (λ n. split ! $ move ! (1 ∷ []) $ use1 W (some (λ (zs : Lasts g.ended ((ν ∷ []), κs) (cargs (ν ∷ []) l11 γ)). ‵ (lasts g.ended ((ν ∷ []), κs) (cargs (ν ∷ []) l11 γ) zs) ⊛ raw (fact 𝓤 (E0 (ν ∷ []) l11 γ n zs)) ⊛ raw (fact 𝓤 (E1 (ν ∷ []) l11 γ n zs)) ⊛ raw (fact 𝓤 (E2 (ν ∷ []) l11 γ n zs)) ⊛ raw (fact 𝓤 (E3 (ν ∷ []) l11 γ n zs)) ⊛ raw (fact 𝓤 (E4 (ν ∷ []) l11 γ n zs)) ⊛ raw (fact 𝓤 (E5 (ν ∷ []) l11 γ n zs)) ⊛ raw (fact 𝓤 (E6 (ν ∷ []) l11 γ n zs)) ⊛ raw (fact 𝓤 (E7 (ν ∷ []) l11 γ n zs)))) (id⊢ 𝓤 _) $ pick ! (λ zs.
-        split ! $ move ! (1 ∷ []) $ split ! $ heard ! (E0 (ν ∷ []) l11 γ n zs) (λ e0. split ! $ heard ! (E1 (ν ∷ []) l11 γ n zs) (λ e1. split ! $ heard ! (E2 (ν ∷ []) l11 γ n zs) (λ e2. split ! $ heard ! (E3 (ν ∷ []) l11 γ n zs) (λ e3. split ! $ heard ! (E4 (ν ∷ []) l11 γ n zs) (λ e4. split ! $ heard ! (E5 (ν ∷ []) l11 γ n zs) (λ e5. split ! $ heard ! (E6 (ν ∷ []) l11 γ n zs) (λ e6. heard ! (E7 (ν ∷ []) l11 γ n zs) (λ e7.
+        use1 W (later (some (λ (n : ℕ). ((‵ (flft (ν ∷ []) fullShare) ⊛ raw Toks) ⊛ ‵ (u8 .own n (u ∷ []))) ⊛ raw (ensured 𝓤 H A g.ended (g.clauses 𝓤 H A mem run) ((ν ∷ []), κs) (cargs (ν ∷ []) l11 γ) tt n)))) (id⊢ 𝓤 _) $ await ! tt $ pick ! (λ n. split ! $ move ! (1 ∷ []) $ use1 W (some (λ (zs : Lasts g.ended ((ν ∷ []), κs) (cargs (ν ∷ []) l11 γ)). ‵ (lasts g.ended ((ν ∷ []), κs) (cargs (ν ∷ []) l11 γ) zs) ⊛ raw (fact 𝓤 (E (ν ∷ []) l11 γ n zs)))) (id⊢ 𝓤 _) $ pick ! (λ zs.
+        split ! $ move ! (1 ∷ []) $ heard ! (E (ν ∷ []) l11 γ n zs) (λ e.
         fsplit ! $ move ! (2 ∷ []) $ split ! $ move ! (1 ∷ []) $ peeks ! u8 (Is u8) (shows 𝓤 H A u8) n (u ∷ []) (λ is. land ! (from ! (stop !)) (init ! 33 refl (uint-lawful 𝓤 H A W w8 .typed n _ is .0)) $
         -- [ownN; toks2; res; said; lent; L26; L25; L24; L23; L22; L21; L20; L19; L18; L17; L16; L15; L14; L13; L12; L10; L9; L8; L7; L6; L5; L4; L3; L2; L1; L0]
         move ! (1 ∷ []) $ split ! $ lft-end ! tt $ move ! (0 ∷ 5 ∷ 3 ∷ []) $ use3 W (later (‵ (fat fullShare T′.mir l11 0 (low (zs .0))) ⊛ ‵ (T.the-row .own (zs .0) (low (zs .0) ∷ [])))) (cell-back 𝓤 H A W T.the-row T′.mir low (LL.tells T.the-type T′.the-laws) (λ b v. W .laws .raw-at fullShare T′.mir b 0 v) (ν ∷ []) γ (zs .0) l11) $ await ! tt $
@@ -200,7 +179,7 @@ module _ {M : Type 1} (𝓤 : URA M) (H : Heap 𝓤) (A : Atoms 𝓤) (W : Given
         forget ! 38 refl $ forget ! 40 refl $ forget ! 42 refl $ forget ! 44 refl $ forget ! 46 refl $ forget ! 48 refl $ forget ! 50 refl $ forget ! 52 refl $ forget ! 54 refl $ forget ! 56 refl $ move ! (56 ∷ 57 ∷ []) $ free1 ! $ move ! (54 ∷ 55 ∷ []) $ free1 ! $ move ! (52 ∷ 53 ∷ []) $ free1 ! $ move ! (50 ∷ 51 ∷ []) $ free1 ! $ move ! (48 ∷ 49 ∷ []) $
         free1 ! $ move ! (46 ∷ 47 ∷ []) $ free1 ! $ move ! (44 ∷ 45 ∷ []) $ free1 ! $ move ! (42 ∷ 43 ∷ []) $ free1 ! $ move ! (40 ∷ 41 ∷ []) $ free1 ! $ move ! (38 ∷ 39 ∷ []) $ free1 ! $ move ! (36 ∷ 37 ∷ []) $ free1 ! $ move ! (1 ∷ 35 ∷ []) $ free1 ! $ move ! (32 ∷ 33 ∷ []) $ free1 ! $ move ! (30 ∷ 31 ∷ []) $ free1 ! $ move ! (28 ∷ 29 ∷ []) $
         free1 ! $ move ! (26 ∷ 27 ∷ []) $ free1 ! $ move ! (24 ∷ 25 ∷ []) $ free1 ! $ move ! (22 ∷ 23 ∷ []) $ free1 ! $ move ! (20 ∷ 21 ∷ []) $ free1 ! $ move ! (18 ∷ 19 ∷ []) $ free1 ! $ move ! (16 ∷ 17 ∷ []) $ free1 ! $ move ! (14 ∷ 15 ∷ []) $ free1 ! $ move ! (12 ∷ 13 ∷ []) $ free1 ! $ move ! (10 ∷ 11 ∷ []) $ free1 ! $ move ! (8 ∷ 9 ∷ []) $
-        free1 ! $ move ! (6 ∷ 7 ∷ []) $ free1 ! $ move ! (4 ∷ 5 ∷ []) $ free1 ! $ free0 ! $ keep ! (1 ∷ 3 ∷ []) $ by ! (exits n (zs .0) (zs .1) (is .1) isB e0 e1 e2 e3 e4 e5 e6 e7)))))))))))))))))))))))))))))))))))))))))))
+        free1 ! $ move ! (6 ∷ 7 ∷ []) $ free1 ! $ move ! (4 ∷ 5 ∷ []) $ free1 ! $ free0 ! $ keep ! (1 ∷ 3 ∷ []) $ by ! (exits n (zs .0) (zs .1) (is .1) isB e))))))))))))))))))))))))))))))))))))
 
 module _ {M : Type 1} (𝓤 : URA M) (H : Heap 𝓤) (A : Atoms 𝓤) (W : Given 𝓤 H A) (mem : Memory → SProp 𝓤) (run : Routine → Fun 𝓤) where
   f-walks : (C : Calls 𝓤 H) (Λ : Loops 𝓤 H) → FmC 𝓤 H (W .laws) C → Triple 𝓤 (C #g) (G 𝓤 H A mem run) → Walks 𝓤 H A f.ended stayed (WpFn 𝓤 H C Λ code.function) (f.clauses 𝓤 H A mem run)

@@ -1,6 +1,7 @@
 -- `capi::idz_append` meets its contract: that of the call below, for the row that the flag says. Assumes nothing.
 use mir.Facts.{toZ-ofZ}
 use borrow.Author.Needs.{needs}
+use Rattle.builder.proofs.Coincide.{appends}
 use Rattle.capi.proofs.building.idz_append.Statement.{statement}
 use Rattle.capi.proofs.building.idz_append.Tie as tie
 
@@ -10,7 +11,9 @@ returns c =
     let d = t .before .before .before in
     let f = d .before .before .before .before .before .before .before in
     let s = f .before .before .before .before .before .before .before in
-    rw (← (f .is-present .ensures)) (rw (toZ-ofZ (s .fits .value)) at (d .append .ensures))
+    let e = rw (toZ-ofZ (s .fits .value)) at (d .append .ensures) in
+    rw (← (f .is-present .ensures))
+    (appends _ _ _ _ _ _ _ _ _ _ _ _ (e .0) (e .1 .0) (e .1 .1 .0) (e .1 .1 .1 .0) (e .1 .1 .1 .1 .0) (e .1 .1 .1 .1 .1 .0) (e .1 .1 .1 .1 .1 .1))
 
 pub idz-append-spec : {M : Type 1} → statement M
 idz-append-spec =
