@@ -149,7 +149,9 @@ fn memory_changed_between_calls_is_refused_or_read_and_nothing_is_written_by_a_r
 
 #[test]
 fn a_count_longer_than_needed_is_refused_at_each_place() {
-    for longer in [&[0x80, 0][..], &[0x81, 0], &[0xFF, 0], &[0x80, 0x80, 0], &[0x80, 0x80, 0x80, 0x80, 0], &[0xFF, 0xFF, 0xFF, 0xFF, 0]] {
+    for longer in
+        [&[0x80, 0][..], &[0x81, 0], &[0xFF, 0], &[0x80, 0x80, 0], &[0x80, 0x80, 0x80, 0x80, 0], &[0xFF, 0xFF, 0xFF, 0xFF, 0]]
+    {
         for run in 0..3 {
             let mut counts = vec![1; run];
             counts.extend(longer);
