@@ -40,7 +40,7 @@ enum {
                             that changed since opening */
     IDZ_CUT = 10,        /* the block is cut */
     IDZ_LENGTH = 11,     /* a length is wrong */
-    IDZ_VARINT = 12,     /* a run count is cut or too large */
+    IDZ_VARINT = 12,     /* a run count is cut, too large or longer than needed */
     IDZ_COUNTS = 13,     /* a run count is 0, or the counts don't fill their section */
     IDZ_ENDS = 14,       /* a blob end falls or passes the data */
     IDZ_KEY = 15,        /* a dictionary key names no entry */

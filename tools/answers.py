@@ -486,10 +486,12 @@ def refusals(s):
              (12, 1, "0100000005000000 FFFFFFFF7F" + one), (12, 1, "0100000005000000 8080808080" + one),
              (12, 1, "0100000006000000 808080808000" + one), (12, 1, "0200000002000000 0180" + two),
              (13, 1, "0200000002000000 0080" + two), (13, 1, "0100000002000000 0180" + one),
-             (13, 1, "0100000001000000 00" + one), (13, 1, "0100000002000000 8000" + one),
-             (13, 1, "0100000005000000 8080808000" + one), (13, 1, "0200000001000000 01" + two),
+             (13, 1, "0100000001000000 00" + one), (12, 1, "0100000002000000 8000" + one),
+             (12, 1, "0100000005000000 8080808000" + one), (13, 1, "0200000001000000 01" + two),
+             (13, 1, "0200000003000000 008100" + two), (12, 2, "0200000003000000 018100" + two),
+             (13, 1, "0100000003000000 018000" + one),
              (13, 1, "0200000000000000" + two), (13, 2, "0100000002000000 0101" + one), (13, 0, "0100000001000000 00" + one),
-             (13, 1, "0200000002000000 0100" + two), (13, 1, "0200000003000000 808000" + two),
+             (13, 1, "0200000002000000 0100" + two), (12, 1, "0200000003000000 808000" + two),
              # the sum
              (16, 0, "0100000001000000 01" + one), (16, 2, "0100000001000000 01" + one),
              (16, 2, "0200000002000000 0102" + two), (16, 2**32 + 1, "0100000001000000 01" + one),
@@ -575,21 +577,23 @@ def cuts(s):
         s.open(I16, 4, 0, 3, expect=10)
 
 
+def of_counts(encoding, counts, number):
+    """A block of an encoding with runs, with i16 items 0, 1, .. and these bytes as its counts; and where in it the counts start."""
+    inner = model.plain(I16, 0, range(number))
+    if encoding == 2:
+        return runs(counts, inner, number), 8
+    if encoding == 3:
+        return runs(counts, bits(inner, "D5"), number), 8
+    return dictionary(runs(counts, keys(*range(number)), number), number, inner), 20
+
+
 def spellings(s):
-    """Counts of every length, longer than needed, and of several runs."""
-    for counts, values in ((["7F", "8001", "FF7F", "808001", "FFFF7F", "80808001"], 6),
-                           (["FFFFFF7F", "8080808001", "FFFFFFFF0E", "808080800F", "FFFFFFFF0F"], 5),
-                           (["8100", "818000", "81808000", "8180808000", "01"], 5)):
+    """Counts of every length, and of several runs."""
+    for counts in (["7F", "8001", "FF7F", "808001", "FFFF7F", "80808001"],
+                   ["FFFFFF7F", "8080808001", "FFFFFFFF0E", "808080800F", "FFFFFFFF0F"]):
         numbers = [model.count_at(bytes.fromhex(c), 0)[0] for c in counts]
         for encoding in (2, 3, 4):
-            text = "".join(counts)
-            inner = model.plain(I16, 0, range(values))
-            if encoding == 2:
-                s.load(runs(text, inner, values))
-            elif encoding == 3:
-                s.load(runs(text, bits(inner, "D5"), values))
-            else:
-                s.load(dictionary(runs(text, keys(*range(values)), values), values, inner))
+            s.load(of_counts(encoding, "".join(counts), len(counts))[0])
             s.open(I16, encoding, 0, sum(numbers), expect=0)
             for n in numbers:
                 s.skip(n - 1, expect=0)
@@ -600,6 +604,27 @@ def spellings(s):
                     s.skip(sum(numbers[:numbers.index(n) + 1]), expect=0)
             s.skip(s.left())
             s.give(1, expect=0)
+
+
+def longer_than_needed(s):
+    """A count with a last byte of 0 behind another, as each of three: 12 at opening, and 9 in a reader when its bytes become such."""
+    for spelled in ("8000", "8100", "FF00", "808000", "8080808000", "FFFFFFFF00"):
+        needed = spelled[:-2] + "01"
+        size, count = len(spelled) // 2, model.count_at(bytes.fromhex(needed), 0)[0]
+        for encoding in (2, 3, 4):
+            block, start = of_counts(encoding, 3 * needed, 3)
+            s.load(block)
+            for run in range(3):
+                last = start + (run + 1) * size - 1
+                s.open(I16, encoding, 0, 3 * count, expect=0)
+                s.skip(run * count, expect=0)
+                s.change(last, 0)
+                s.skip(0, expect=0)
+                s.remaining(expect=0)
+                s.give(1, expect=9)
+                s.skip(1, expect=9)
+                s.open(I16, encoding, 0, 3 * count, expect=12)
+                s.change(last, 1)
 
 
 def sound_all_the_same(s):
@@ -1046,7 +1071,7 @@ def damaged_by_chance(s):
             s.wander(4)
 
 
-SECTIONS = (samples, all_pairs, wide_chars, no_rows, refusals, cuts, spellings, sound_all_the_same, run_two, many_bytes,
+SECTIONS = (samples, all_pairs, wide_chars, no_rows, refusals, cuts, spellings, longer_than_needed, sound_all_the_same, run_two, many_bytes,
             most_rows, most_entries, most_items, forged, forged_heads, forged_lengths, damaged, nine_first, forged_by_chance,
             damaged_by_chance)
 
@@ -1054,7 +1079,7 @@ SECTIONS = (samples, all_pairs, wide_chars, no_rows, refusals, cuts, spellings, 
 def main():
     seed = int(sys.argv[1]) if len(sys.argv) > 1 else SEED
     root = pathlib.Path(__file__).resolve().parent.parent
-    folder = pathlib.Path(sys.argv[2]) if len(sys.argv) > 2 else root / "crates" / "reads"
+    folder = pathlib.Path(sys.argv[2]) if len(sys.argv) > 2 else root / "crates" / "try_reading"
     s = Script(seed)
     for section in SECTIONS:
         before = len(s.commands), len(s.answers), s.blocks

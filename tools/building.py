@@ -1155,7 +1155,7 @@ SECTIONS = (samples, counts, all_pairs, many_flags, borders, as_given, last_coun
 def main():
     seed = int(sys.argv[1]) if len(sys.argv) > 1 else SEED
     root = pathlib.Path(__file__).resolve().parent.parent
-    folder = pathlib.Path(sys.argv[2]) if len(sys.argv) > 2 else root / "crates" / "builds"
+    folder = pathlib.Path(sys.argv[2]) if len(sys.argv) > 2 else root / "crates" / "try_building"
     s = Script(seed)
     done = 0, 0, 0
     for section in SECTIONS:

@@ -204,6 +204,7 @@ def refusals(s):
     s.list(run[:-1], 11)
     s.list(descriptor(2, 2, 0, 4) + bytes.fromhex("01000000 05000000 FFFFFFFF10 07000000"), 12)
     s.list(descriptor(2, 2, 0, 4) + bytes.fromhex("01000000 01000000 80 07000000"), 12)
+    s.list(descriptor(0, 2, 0, 1) + bytes.fromhex("01000000 02000000 8100 01"), 12)
     s.list(descriptor(2, 2, 0, 4) + bytes.fromhex("00000000 00000000"), 13)
     s.list(descriptor(2, 2, 0, 4) + bytes.fromhex("01000000 01000000 00 07000000"), 13)
     s.list(descriptor(2, 2, 0, 5) + run[8:], 16)
@@ -252,6 +253,8 @@ def changed(s):
     s.change(run, 9, 0, 0, ["rows 4", "0 7", "1 7", "2 7", "refused 9"])  # the second count is 0
     s.change(run, 8, 0, 0, ["rows 4", "refused 9"])  # the first
     s.change(run, 8, 2, 1, ["rows 2", "refused 9"])  # fewer rows than were passed over
+    longer = descriptor(0, 2, 0, 129) + bytes.fromhex("01000000 02000000 8101 01")
+    s.change(longer, 9, 0, 0, ["rows 129", "refused 9"])  # a count that becomes longer than needed
     keys = SAMPLES["dictionary_blob"]
     last = keys[8:].index(bytes.fromhex("02000080 02000000"))
     s.change(keys, last, 0, 3, ["rows 4", "0 6162", "1 null", "2 6162", "refused 9"])  # a key that names no entry

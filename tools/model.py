@@ -151,7 +151,9 @@ def count_at(s, at):
         byte = s[at + k]
         value |= (byte & 127) << 7 * k
         if byte < 128:
-            return (value, k + 1) if value < 2**32 else None
+            # behind other bytes a last one of 0 is one more than needed
+            needed = byte > 0 or k == 0
+            return (value, k + 1) if value < 2**32 and needed else None
     return None
 
 

@@ -80,10 +80,23 @@ static void refused(void) {
     expect(idz_open(IDZ_I32, IDZ_RUN_LENGTH, 0, 5, sample_a, sizeof sample_a).number == IDZ_SUM, "another sum is 16");
 }
 
+/* bool, run-length: one run of 129 rows, whose count then becomes 1 in two bytes. */
+static void longer_than_needed(void) {
+    uint8_t block[] = {1, 0, 0, 0, 2, 0, 0, 0, 0x81, 0x01, 1};
+    idz_opening opening = idz_open(IDZ_BOOL, IDZ_RUN_LENGTH, 0, 129, block, sizeof block);
+    expect(opening.number == IDZ_DONE, "a count in two bytes opens");
+    block[9] = 0;
+    expect(batch(opening.reader, block, sizeof block, 1).number == IDZ_DISAGREE, "a count that became longer than needed is 9");
+    expect(idz_skip(opening.reader, block, sizeof block, 1).number == IDZ_DISAGREE, "to a skip too");
+    expect(idz_skip(opening.reader, block, sizeof block, 0).number == IDZ_DONE, "unless it passes over none");
+    expect(idz_open(IDZ_BOOL, IDZ_RUN_LENGTH, 0, 1, block, sizeof block).number == IDZ_VARINT, "and 12 at opening");
+}
+
 int main(void) {
     fixed();
     variable();
     refused();
+    longer_than_needed();
     printf("%d passed, %d failed\n", passed, failed);
     return failed > 0;
 }

@@ -27,7 +27,7 @@ pub const CUT: u8 = 10;
 // A length is wrong.
 pub const LENGTH: u8 = 11;
 
-// A run count is cut or too large.
+// A run count is cut, too large or longer than needed.
 pub const VARINT: u8 = 12;
 
 // A run count is 0, or the counts don't fill their section.

@@ -1,5 +1,5 @@
 -- Run counts: a list of counts as the layout says is one that the walk over its bytes adds up, and the other way round. Assumes nothing.
-use Prim.Native.Nat.{ℕ, zero, suc, _+_, _-_, _^_, _<_}
+use Prim.Native.Nat.{ℕ, zero, suc, _+_, _-_, _*_, _^_, _<_}
 use native.Mathlib.Nat.{zero-add}
 use native.Mathlib.Omega.{arith}
 use mathlib.Core.Bool.{Bool, true, false, cond}
@@ -27,12 +27,20 @@ module _ (rest : List ℕ) where
   abbrev Own : ℕ → List ℕ → Type 0
   Own k s = (v n : ℕ) → countWithin k s ≡ Number v n → countWithin k (take n s ++ rest) ≡ Number v n
 
+  -- a number that came of one byte more has one byte more
+  one-longer : (low w m v n : ℕ) → more low (Number w m) ≡ Number v n → n ≡ suc m
+  unfolding more
+  one-longer low w m v n q = go (eqb w 0) q
+    where
+      go : (t : Bool) → cond t Bad (Number (low + 128 * w) (m + 1)) ≡ Number v n → n ≡ suc m
+      go true p = let z : _≡_ {A = ℕ} 0 1 = cc in absurd (omega arith)
+      go false p = let a : m + 1 ≡ n = cc in omega arith
+
   own-more : (k b : ℕ) (s : List ℕ) → Own k s → ltb b 128 ≡ false → (c : Count) → countWithin k s ≡ c
       → (v n : ℕ) → more (b - 128) c ≡ Number v n → countWithin (suc k) (take n (b ∷ s) ++ rest) ≡ Number v n
   unfolding countWithin more
   own-more k b s own e (Number w m) f v n q =
-      let a : m + 1 ≡ n = cc in
-      let l : n ≡ suc m = omega arith in
+      let l : n ≡ suc m = one-longer (b - 128) w m v n q in
       rw l (simp e (ap (more (b - 128)) (own w m f) ∙ q ∙ ap (Number v) l))
   own-more k b s own e Bad f v n q = let z : _≡_ {A = ℕ} 0 1 = cc in absurd (omega arith)
 

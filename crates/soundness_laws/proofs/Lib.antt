@@ -6,3 +6,4 @@ pub mod RunLengths
 pub mod Slots
 pub mod Dictionaries
 pub mod Opens
+pub mod Spelled

@@ -40,7 +40,7 @@ written ws = joined (λ w. w .bytes) ws
 abbrev pub Field : ℕ → Order → Written → Type 0
 Field width order w = (length (w .bytes) ≡ width) × (numberOf order (w .bytes) ≡ w .value)
 
--- a run count: a varint of at most 32 bits and five bytes, above 0
+-- a run count: a varint of at most 32 bits and five bytes, no longer than needed, above 0
 abbrev pub RunCount : Written → Type 0
 RunCount w = (countOf (w .bytes) ≡ Number (w .value) (length (w .bytes))) × (0 < w .value)
 

@@ -3,5 +3,5 @@ pub mod Spelling
 pub mod Writing
 pub mod Within
 pub mod RoundTrip
-pub mod Shortest
+pub mod OneSpelling
 pub mod Coincide

@@ -7,7 +7,7 @@ use mathlib.Core.Path.{_≡_, refl, _∙_}
 use mathlib.Core.List.{List, []}
 use lib.ListN.{length, getD, drop, drop-of-length-le}
 use lib.Seq.{drop-cons}
-use borrow.Author.Tests.{lt-ltb, le-ltb}
+use borrow.Author.Tests.{lt-ltb, le-ltb, ne-eqb}
 use Rattle.varint.specs.declared.Count.the-variants.{Number, Bad}
 use Rattle.varint.specs.Varint.{more, countWithin, in32Bits, countOf, countAt}
 use Rattle.area.proofs.Laws.{lt-or-ge}
@@ -51,6 +51,23 @@ module _ (s : List ℕ) (at : ℕ) where
   unfolding countWithin
   none j = refl
 
+  -- ---- a byte in front of what is worth something, of what is worth nothing, and of no number
+  front : (low v n : ℕ) → 0 < v → more low (Number v n) ≡ Number (low + 128 * v) (n + 1)
+  unfolding more
+  front low v n h = simp (ne-eqb v 0 (λ (z : v ≡ 0). omega arith))
+
+  front-none : (low n : ℕ) → more low (Number 0 n) ≡ Bad
+  unfolding more
+  front-none low n = refl
+
+  front-bad : (low : ℕ) → more low Bad ≡ Bad
+  unfolding more
+  front-bad low = refl
+
+  -- and it is worth something itself then
+  worth : (low v : ℕ) → 0 < v → 0 < low + 128 * v
+  worth low v h = omega arith
+
   -- ---- the bytes passed
   start : countWithin 5 (drop at s) ≡ countWithin 5 (drop (at + 0) s)
   start = rw add-zero
@@ -87,27 +104,33 @@ module _ (s : List ℕ) (at : ℕ) where
   pub one : (v : ℕ) → Last₀ → v ≡ getD s at 0 → Number v 1 ≡ countAt s at
   one v l p = done v _ _ (start ∙ end 0 4 (rw add-zero l) ∙ rw add-zero) p (omega arith)
 
-  pub two : (v : ℕ) → On₀ → Last 1 → v ≡ getD s at 0 - 128 + 128 * byte 1 → v < 2 ^ 32 → Number v 2 ≡ countAt s at
-  unfolding more
-  two v a l p h = done v _ _ (on1 a ∙ rw (end 1 3 l)) p h
+  -- each last byte behind another is above 0
+  pub two : (v : ℕ) → On₀ → Last 1 → 0 < byte 1 → v ≡ getD s at 0 - 128 + 128 * byte 1 → v < 2 ^ 32 → Number v 2 ≡ countAt s at
+  two v a l z p h = done v _ _ (on1 a ∙ rw (end 1 3 l, front _ _ _ z)) p h
 
-  pub three : (v : ℕ) → On₀ → On 1 → Last 2 → v ≡ getD s at 0 - 128 + 128 * (byte 1 - 128 + 128 * byte 2) → v < 2 ^ 32 → Number v 3 ≡ countAt s at
-  unfolding more
-  three v a b l p h = done v _ _ (on2 a b ∙ rw (end 2 2 l)) p h
+  pub three : (v : ℕ) → On₀ → On 1 → Last 2 → 0 < byte 2
+      → v ≡ getD s at 0 - 128 + 128 * (byte 1 - 128 + 128 * byte 2) → v < 2 ^ 32 → Number v 3 ≡ countAt s at
+  three v a b l z p h = done v _ _ (on2 a b ∙ rw (end 2 2 l, front _ _ _ z, front _ _ _ (worth _ _ z))) p h
 
-  pub four : (v : ℕ) → On₀ → On 1 → On 2 → Last 3
+  pub four : (v : ℕ) → On₀ → On 1 → On 2 → Last 3 → 0 < byte 3
       → v ≡ getD s at 0 - 128 + 128 * (byte 1 - 128 + 128 * (byte 2 - 128 + 128 * byte 3)) → v < 2 ^ 32 → Number v 4 ≡ countAt s at
-  unfolding more
-  four v a b d l p h = done v _ _ (on3 a b d ∙ rw (end 3 1 l)) p h
+  four v a b d l z p h =
+      let z₂ = worth (byte 2 - 128) _ z in
+      done v _ _ (on3 a b d ∙ rw (end 3 1 l, front _ _ _ z, front _ _ _ z₂, front _ _ _ (worth _ _ z₂))) p h
 
   abbrev five-bytes : ℕ
   five-bytes = getD s at 0 - 128 + 128 * (byte 1 - 128 + 128 * (byte 2 - 128 + 128 * (byte 3 - 128 + 128 * byte 4)))
 
   -- the four top bits together are 270549120; as a sum, since `omega` doesn't follow so many subtractions
-  pub five : (v : ℕ) → On₀ → On 1 → On 2 → On 3 → Last 4
+  all-five : On₀ → On 1 → On 2 → On 3 → Last 4 → 0 < byte 4 → countWithin 5 (drop at s) ≡ Number five-bytes 5
+  all-five a b d e l z =
+      let z₃ = worth (byte 3 - 128) _ z in
+      let z₂ = worth (byte 2 - 128) _ z₃ in
+      on4 a b d e ∙ rw (end 4 0 l, front _ _ _ z, front _ _ _ z₃, front _ _ _ z₂, front _ _ _ (worth _ _ z₂))
+
+  pub five : (v : ℕ) → On₀ → On 1 → On 2 → On 3 → Last 4 → 0 < byte 4
       → v + 270549120 ≡ getD s at 0 + 128 * (byte 1 + 128 * (byte 2 + 128 * (byte 3 + 128 * byte 4))) → v < 2 ^ 32 → Number v 5 ≡ countAt s at
-  unfolding more
-  five v a b d e l p h = done v five-bytes _ (on4 a b d e ∙ rw (end 4 0 l)) (omega arith) h
+  five v a b d e l z p h = done v five-bytes _ (all-five a b d e l z) (omega arith) h
 
   -- ---- the returns of no number
   pub cut0 : length s ≤ at → Bad ≡ countAt s at
@@ -129,10 +152,25 @@ module _ (s : List ℕ) (at : ℕ) where
   unfolding more
   cut4 a b d e h = bad (on4 a b d e ∙ rw (cut 4 1 h))
 
+  -- a last byte of 0 behind others
+  pub long1 : On₀ → at + 1 < length s → byte 1 < 1 → Bad ≡ countAt s at
+  long1 a l h = let z : byte 1 ≡ 0 = omega arith in bad (on1 a ∙ rw (end 1 3 (l, omega arith), z, front-none))
+
+  pub long2 : On₀ → On 1 → at + 2 < length s → byte 2 < 1 → Bad ≡ countAt s at
+  long2 a b l h = let z : byte 2 ≡ 0 = omega arith in bad (on2 a b ∙ rw (end 2 2 (l, omega arith), z, front-none, front-bad))
+
+  pub long3 : On₀ → On 1 → On 2 → at + 3 < length s → byte 3 < 1 → Bad ≡ countAt s at
+  long3 a b d l h = let z : byte 3 ≡ 0 = omega arith in bad (on3 a b d ∙ rw (end 3 1 (l, omega arith), z, front-none, front-bad, front-bad))
+
+  pub long4 : On₀ → On 1 → On 2 → On 3 → at + 4 < length s → byte 4 < 1 → Bad ≡ countAt s at
+  long4 a b d e l h =
+      let z : byte 4 ≡ 0 = omega arith in
+      bad (on4 a b d e ∙ rw (end 4 0 (l, omega arith), z, front-none, front-bad, front-bad, front-bad))
+
   -- a fifth byte above 15 ends a number that is too large, or ends none
   pub high : On₀ → On 1 → On 2 → On 3 → at + 4 < length s → 15 < byte 4 → Bad ≡ countAt s at
   unfolding more
   high a b d e l h = ⊎-elim
-      (λ (m : byte 4 < 128). large five-bytes 5 (on4 a b d e ∙ rw (end 4 0 (l, m))) (omega arith))
+      (λ (m : byte 4 < 128). large five-bytes 5 (all-five a b d e (l, m) (omega arith)) (omega arith))
       (λ (m : 128 ≤ byte 4). bad (on4 a b d e ∙ rw (on 4 0 (l, m), none 5)))
       (lt-or-ge (byte 4) 128)

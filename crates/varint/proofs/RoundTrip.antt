@@ -9,7 +9,7 @@ use mathlib.Core.List.{List, _∷_, _++_, append-assoc}
 use lib.Dec.{ltb}
 use lib.ListN.{length, take, drop}
 use lib.Seq.{drop-at, length-take-le}
-use borrow.Author.Tests.{lt-ltb, le-ltb}
+use borrow.Author.Tests.{lt-ltb, le-ltb, ne-eqb}
 use Rattle.area.specs.Area.{over}
 use Rattle.varint.specs.declared.Count.{Count}
 use Rattle.varint.specs.declared.Count.the-variants.{Number}
@@ -25,9 +25,9 @@ count-more : (k b : ℕ) (s : List ℕ) → 128 ≤ b → countWithin (suc k) (b
 unfolding countWithin
 count-more k b s h = simp (le-ltb _ _ h)
 
-more-is : (low v n m w : ℕ) (r : Count) → r ≡ Number v n → low + 128 * v ≡ w → suc n ≡ m → more low r ≡ Number w m
+more-is : (low v n m w : ℕ) (r : Count) → r ≡ Number v n → 0 < v → low + 128 * v ≡ w → suc n ≡ m → more low r ≡ Number w m
 unfolding more
-more-is low v n m w r e p q = rw (e, p, add-one, q)
+more-is low v n m w r e z p q = let some = ne-eqb v 0 (λ (h : v ≡ 0). omega arith) in rw (e, some, p, add-one, q)
 
 -- by the bytes that are allowed: seven bits each
 count-spell : (k v : ℕ) (rest : List ℕ) → v < 128 ^ suc k
@@ -40,7 +40,7 @@ count-spell (suc k) v rest h = go (count-spell k (v / 128) rest (omega arith))
     go ih = ⊎-elim
         (λ (l : v < 128). rw (spell-last (suc k) v l) (count-last (suc k) v rest l))
         (λ (l : 128 ≤ v). rw (spell-more (suc k) v l)
-        (count-more (suc k) (128 + v % 128) (spellWithin (suc k) (v / 128) ++ rest) (omega arith) ∙ more-is _ _ _ _ _ _ ih (omega arith) refl))
+        (count-more (suc k) (128 + v % 128) (spellWithin (suc k) (v / 128) ++ rest) (omega arith) ∙ more-is _ _ _ _ _ _ ih (omega arith) (omega arith) refl))
         (lt-or-ge v 128)
 
 -- ---- the round trip: at the head of a list, and at a place of an area that it was laid over

@@ -1,15 +1,24 @@
 -- A count that was read lies within its list: it has one to five bytes, all there, and its number is of 32 bits. Assumes nothing.
-use Prim.Native.Nat.{ℕ, zero, suc, _+_, _-_, _^_, _≤_, _<_}
+use Prim.Native.Nat.{ℕ, zero, suc, _+_, _-_, _*_, _^_, _≤_, _<_}
 use native.Mathlib.Omega.{arith}
 use mathlib.Core.Bool.{Bool, true, false, cond}
 use mathlib.Core.List.{List, [], _∷_}
 use mathlib.Core.Path.{_≡_, refl, sym, subst}
-use lib.Dec.{ltb}
+use lib.Dec.{ltb, eqb}
 use lib.ListN.{length, drop, length-drop}
-use borrow.Author.Tests.{ltb-true}
+use borrow.Author.Tests.{ltb-true, eqb-false}
 use Rattle.varint.specs.declared.Count.{Count}
 use Rattle.varint.specs.declared.Count.the-variants.{Number, Bad}
 use Rattle.varint.specs.Varint.{more, countWithin, in32Bits, countOf, countAt}
+
+-- what one byte more comes to: no number, or one whose rest is above 0
+pub more-cases : (P : Count → Type 0) (low v n : ℕ) → P Bad → (0 < v → P (Number (low + 128 * v) (n + 1))) → P (more low (Number v n))
+unfolding more
+more-cases P low v n bad number = go (eqb v 0) refl
+  where
+    go : (t : Bool) → eqb v 0 ≡ t → P (cond t Bad (Number (low + 128 * v) (n + 1)))
+    go true e = bad
+    go false e = number (let z = eqb-false v 0 e in omega arith)
 
 -- of a number: it takes at least one byte, and no more than are allowed or there; of Bad nothing is said
 abbrev Sized : ℕ → ℕ → Count → Type 0
@@ -18,7 +27,7 @@ Sized k m Bad = Unit
 
 sized-more : (low k m : ℕ) (r : Count) → Sized k m r → Sized (suc k) (suc m) (more low r)
 unfolding more
-sized-more low k m (Number v n) h = omega arith
+sized-more low k m (Number v n) h = more-cases (Sized (suc k) (suc m)) low v n tt (λ z. omega arith)
 sized-more low k m Bad h = tt
 
 sized-within : (k : ℕ) (s : List ℕ) → Sized k (length s) (countWithin k s)

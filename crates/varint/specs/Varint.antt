@@ -3,7 +3,7 @@ use Prim.Native.Nat.{ℕ, zero, suc, _+_, _-_, _*_, _/_, _%_, _^_}
 use mathlib.Core.List.{List, [], _∷_}
 use mathlib.Core.Bool.{cond}
 use lib.ListN.{length, drop}
-use lib.Dec.{ltb}
+use lib.Dec.{ltb, eqb}
 use Rattle.area.specs.Area.{fitsAt, over}
 use Rattle.varint.specs.declared.Count.{Count}
 use Rattle.varint.specs.declared.Count.the-variants.{Number, Bad}
@@ -11,9 +11,10 @@ use Rattle.varint.specs.declared.Wrote.{Wrote}
 use Rattle.varint.specs.declared.Wrote.the-variants.{Bytes, NoRoom}
 
 -- ---- reading
--- one more byte in front, whose low seven bits are the number's lowest
+-- One more byte in front, whose low seven bits are the number's lowest. Where what follows it is worth 0, the number is spelled without that, so this
+-- spelling is longer than needed, and bad.
 unfoldable pub more : ℕ → Count → Count
-more low (Number v n) = Number (low + 128 * v) (n + 1)
+more low (Number v n) = cond (eqb v 0) Bad (Number (low + 128 * v) (n + 1))
 more low Bad = Bad
 
 -- The varint at the head of a list, of at most so many bytes. A byte below 128 is the last. Any other has its top bit set, and the rest of the

@@ -17,7 +17,8 @@ pub enum Wrote {
     NoRoom,
 }
 
-// The count at a place: at most five bytes, the fifth at most 0x0F.
+// The count at a place: at most five bytes, the fifth at most 0x0F, and no last byte of 0 behind another, which would be one more than
+// needed.
 pub fn decode_u32(s: &[u8], at: usize) -> Count
     ensures { λ r. ⌜ Decodes (now (s .entry)) at r ⌝ }
 {
@@ -35,6 +36,9 @@ pub fn decode_u32(s: &[u8], at: usize) -> Count
     }
     let b1 = area::wide(s[at + 1]);
     let v1 = (b0 - 128) + b1 * 128;
+    if b1 < 1 {
+        return Count::Bad;
+    }
     if b1 < 128 {
         return Count::Number { value: v1, len: 2 };
     }
@@ -57,6 +61,9 @@ fn longer(s: &[u8], at: usize, low: u32) -> Count
     }
     let b2 = area::wide(s[at + 2]);
     let v2 = low + b2 * 16384;
+    if b2 < 1 {
+        return Count::Bad;
+    }
     if b2 < 128 {
         return Count::Number { value: v2, len: 3 };
     }
@@ -65,6 +72,9 @@ fn longer(s: &[u8], at: usize, low: u32) -> Count
     }
     let b3 = area::wide(s[at + 3]);
     let v3 = (v2 - 2097152) + b3 * 2097152;
+    if b3 < 1 {
+        return Count::Bad;
+    }
     if b3 < 128 {
         return Count::Number { value: v3, len: 4 };
     }
@@ -72,6 +82,9 @@ fn longer(s: &[u8], at: usize, low: u32) -> Count
         return Count::Bad;
     }
     let b4 = area::wide(s[at + 4]);
+    if b4 < 1 {
+        return Count::Bad;
+    }
     if b4 <= 15 {
         let v4 = (v3 - 268435456) + b4 * 268435456;
         return Count::Number { value: v4, len: 5 };

@@ -24,7 +24,7 @@ pub enum Refusal {
     Cut,
     /// 11: a length is wrong.
     Length,
-    /// 12: a run count is cut or too large.
+    /// 12: a run count is cut, too large or longer than needed.
     Varint,
     /// 13: a run count is 0, or the counts don't fill their section.
     Counts,
@@ -53,7 +53,7 @@ const TABLE: [(u8, Refusal, &str); 14] = [
     (9, Refusal::Disagree, "the record and the lent memory disagree"),
     (10, Refusal::Cut, "the block is cut"),
     (11, Refusal::Length, "a length in the block is wrong"),
-    (12, Refusal::Varint, "a run count is cut or too large"),
+    (12, Refusal::Varint, "a run count is cut, too large or longer than needed"),
     (13, Refusal::Counts, "a run count is 0, or the run counts don't fill their section"),
     (14, Refusal::Ends, "a blob end falls or passes the data"),
     (15, Refusal::Key, "a dictionary key names no entry"),

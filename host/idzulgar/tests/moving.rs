@@ -97,7 +97,15 @@ fn unfit(kind: Kind) -> Option<Value> {
 }
 
 /// Finish, estimate and should_finish say what the accepted rows say, and hand the builder back.
-fn ask(column: Column, target: usize, record: BuilderRecord, memory: &Memory, accepted: &[Value], next: &Value, chance: &mut Chance) {
+fn ask(
+    column: Column,
+    target: usize,
+    record: BuilderRecord,
+    memory: &Memory,
+    accepted: &[Value],
+    next: &Value,
+    chance: &mut Chance,
+) {
     let block = model::block_of(column, accepted);
     let mut out = vec![0x5a; (block.len() + 3).saturating_sub(chance.below(6) as usize)];
     let before = out.clone();

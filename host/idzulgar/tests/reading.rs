@@ -148,6 +148,34 @@ fn memory_changed_between_calls_is_refused_or_read_and_nothing_is_written_by_a_r
 }
 
 #[test]
+fn a_count_longer_than_needed_is_refused_at_each_place() {
+    for longer in
+        [&[0x80, 0][..], &[0x81, 0], &[0xFF, 0], &[0x80, 0x80, 0], &[0x80, 0x80, 0x80, 0x80, 0], &[0xFF, 0xFF, 0xFF, 0xFF, 0]]
+    {
+        for run in 0..3 {
+            let mut counts = vec![1; run];
+            counts.extend(longer);
+            counts.resize(longer.len() + 2, 1);
+            let mut runs = 3u32.to_le_bytes().to_vec();
+            runs.extend((counts.len() as u32).to_le_bytes());
+            runs.extend(counts);
+            let with = |inner: &[u8]| [&runs[..], inner].concat();
+            // three bools; the same with a bitmap; three keys of no entry's, and no entries
+            let keys = with(&[0, 0, 0, 0x80].repeat(3));
+            let dictionary = [&(keys.len() as u64).to_be_bytes()[..], &[0; 4], &keys].concat();
+            for (encoding, block) in [
+                (Encoding::RunLength, with(&[1, 0, 1])),
+                (Encoding::RunLengthNullable, with(&[1, 0, 1, 7, 1, 0, 0, 0])),
+                (Encoding::Dictionary, dictionary),
+            ] {
+                let refusal = Reader::open(Column::new(Kind::Bool, encoding), 3, &block[..]).err();
+                assert_eq!(refusal, Some(Refusal::Varint), "{encoding:?} {block:02X?}");
+            }
+        }
+    }
+}
+
+#[test]
 fn forged_records_get_an_answer() {
     let mut chance = Chance::new(5);
     let mut answered = 0;

@@ -3,15 +3,23 @@ use idzulgar::{Column, Encoding, Kind, Value};
 
 use crate::model::{self, Chance};
 
-/// A count's spelling, sometimes longer than needed.
-fn spelled(count: u64, chance: &mut Chance) -> Vec<u8> {
+/// How the run counts of a made-up block are spelled: each in as many bytes as needed, or one in three in more of them.
+#[derive(Clone, Copy, PartialEq)]
+pub enum Spelling {
+    Shortest,
+    SomeLonger,
+}
+
+/// A count's bytes.
+fn spelled(count: u64, spelling: Spelling, chance: &mut Chance) -> Vec<u8> {
     let least = (1..5).find(|len| count < 1 << (7 * len)).unwrap_or(5);
-    let len = if chance.one_in(3) { least + chance.below(6 - least) } else { least };
+    let longer = spelling == Spelling::SomeLonger && chance.one_in(3);
+    let len = if longer { least + chance.below(6 - least) } else { least };
     (0..len).map(|place| (count >> (7 * place)) as u8 % 128 + if place + 1 < len { 128 } else { 0 }).collect()
 }
 
 /// A run-length block of random counts over some stored items, and its number of rows.
-fn crafted_runs(items: u64, inner: &[u8], chance: &mut Chance) -> (Vec<u8>, u64) {
+fn crafted_runs(items: u64, inner: &[u8], spelling: Spelling, chance: &mut Chance) -> (Vec<u8>, u64) {
     const TELLING: [u64; 10] = [1, 127, 128, 16_383, 16_384, 1 << 21, 1 << 28, 0xEFFF_FFFF, 0xF000_0000, 0xFFFF_FFFF];
     if items == 0 {
         return (Vec::new(), 0);
@@ -21,7 +29,7 @@ fn crafted_runs(items: u64, inner: &[u8], chance: &mut Chance) -> (Vec<u8>, u64)
     for _ in 0..items {
         let count = if large { TELLING[chance.below(10) as usize] } else { 1 + chance.below(9) };
         n += count;
-        counts.extend(spelled(count, chance));
+        counts.extend(spelled(count, spelling, chance));
     }
     let mut block = (items as u32).to_le_bytes().to_vec();
     block.extend((counts.len() as u32).to_le_bytes());
@@ -30,9 +38,9 @@ fn crafted_runs(items: u64, inner: &[u8], chance: &mut Chance) -> (Vec<u8>, u64)
     (block, n)
 }
 
-/// A sound block that no builder makes: runs that could be joined, counts of any size and spelling, nulls over items, unused
-/// bits set, bool bytes above 1, entries that are equal or that no key names.
-pub fn crafted(column: Column, chance: &mut Chance) -> (Vec<u8>, u64) {
+/// A block that no builder makes, and its number of rows: runs that could be joined, counts of any size, nulls over items, unused bits set,
+/// bool bytes above 1, entries that are equal or that no key names. With each count in as many bytes as needed it is sound.
+pub fn crafted(column: Column, spelling: Spelling, chance: &mut Chance) -> (Vec<u8>, u64) {
     let plain = Column::new(column.kind, Encoding::Plain);
     let rows: Vec<Value> = model::some_rows(column.kind, 12, chance);
     let items = rows.len() as u64;
@@ -48,15 +56,15 @@ pub fn crafted(column: Column, chance: &mut Chance) -> (Vec<u8>, u64) {
     match column.encoding {
         Encoding::Plain => (block, items),
         Encoding::Nullable => (with_flags(block, chance), items),
-        Encoding::RunLength => crafted_runs(items, &block, chance),
+        Encoding::RunLength => crafted_runs(items, &block, spelling, chance),
         Encoding::RunLengthNullable => {
             let inner = with_flags(block, chance);
-            crafted_runs(items, &inner, chance)
+            crafted_runs(items, &inner, spelling, chance)
         }
         Encoding::Dictionary => {
             let runs = chance.below(12);
             let keys: Vec<u8> = (0..runs).flat_map(|_| (chance.below(items + 1) as i32 + i32::MIN).to_le_bytes()).collect();
-            let (keys, n) = crafted_runs(runs, &keys, chance);
+            let (keys, n) = crafted_runs(runs, &keys, spelling, chance);
             let mut all = (keys.len() as u64).to_be_bytes().to_vec();
             all.extend((items as u32).to_be_bytes());
             all.extend(keys);

@@ -39,7 +39,10 @@ add-v1 : tie.Need-add-v1
 add-v1 c = search needs
 
 returns-4 : tie.Need-returns-4
-returns-4 c = laws.two _ _ _ (omega arith) (omega arith) (omega arith) (omega arith)
+returns-4 c = laws.long1 _ _ (omega arith) (omega arith) (omega arith)
+
+returns-5 : tie.Need-returns-5
+returns-5 c = laws.two _ _ _ (omega arith) (omega arith) (omega arith) (omega arith) (omega arith)
 
 sub-longer : tie.Need-sub-longer
 sub-longer c = search needs
@@ -47,8 +50,8 @@ sub-longer c = search needs
 longer-requires : tie.Need-longer-requires
 longer-requires c κs = search needs
 
-returns-5 : tie.Need-returns-5
-returns-5 c = search needs
+returns-6 : tie.Need-returns-6
+returns-6 c = search needs
 
 pub decode-u32-spec : {M : Type 1} → statement M
 decode-u32-spec =
@@ -66,6 +69,7 @@ decode-u32-spec =
     mul-v1
     add-v1
     returns-4
+    returns-5
     sub-longer
     longer-requires
-    returns-5)
+    returns-6)

@@ -177,7 +177,9 @@ fn count(b: &[u8]) -> Option<(u64, &[u8])> {
         }
         value += (*byte as u64 % 128) << (7 * place);
         if *byte < 128 {
-            return Some((value, &b[place + 1..]));
+            // behind other bytes a last one of 0 is one more than needed
+            let needed = *byte > 0 || place == 0;
+            return needed.then_some((value, &b[place + 1..]));
         }
     }
     None

@@ -8,7 +8,7 @@
 use std::fmt::Write;
 
 use idzulgar::{Column, Encoding, Kind, Value};
-use oracle::lists::{alphabet, crafted};
+use oracle::lists::{alphabet, crafted, Spelling};
 use oracle::model::{self, Chance};
 use oracle::{caught, padded};
 
@@ -200,7 +200,7 @@ fn main() {
                     rows
                 }
                 _ => {
-                    let (block, n) = crafted(column, &mut chance);
+                    let (block, n) = crafted(column, Spelling::Shortest, &mut chance);
                     if block.len() <= MOST_BYTES {
                         script.give(&block);
                         script.read(column, n, &block, &mut chance);

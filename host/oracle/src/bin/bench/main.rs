@@ -1,7 +1,7 @@
 //! Reads and builds the same blocks by the port and by the original, in one run, and prints tables for docs/BENCHMARKS.md.
 //!
-//!     bench [reading|building]                  times: nanoseconds a row, best of several rounds, and ratios
-//!     bench instructions [reading|building]     instructions a row by the script `count`: the same whatever else the machine does
+//!     bench [reading|building|runs]                  times: nanoseconds a row, best of several rounds, and ratios
+//!     bench instructions [reading|building|runs]     instructions a row by the script `count`: the same whatever else the machine does
 use std::hint::black_box;
 use std::process::Command;
 use std::time::Instant;
@@ -11,6 +11,7 @@ use idzulgar::Value;
 mod building;
 mod by_hand;
 mod reading;
+mod runs;
 
 /// The five cases of the design.
 const NAMES: [&str; 5] = ["i64 plain", "i32 nullable", "i32 run-length", "blob dictionary", "char 16 plain"];
@@ -74,17 +75,22 @@ fn main() {
         [] => {
             reading::times();
             building::times();
+            runs::times();
         }
         ["reading"] => reading::times(),
         ["building"] => building::times(),
+        ["runs"] => runs::times(),
         ["instructions"] => {
             reading::instructions();
             building::instructions();
+            runs::instructions();
         }
         ["instructions", "reading"] => reading::instructions(),
         ["instructions", "building"] => building::instructions(),
+        ["instructions", "runs"] => runs::instructions(),
         ["count", "reading", ref words @ ..] => reading::count(words),
         ["count", "building", ref words @ ..] => building::count(words),
-        _ => panic!("bench [instructions] [reading|building]"),
+        ["count", "runs", ref words @ ..] => runs::count(words),
+        _ => panic!("bench [instructions] [reading|building|runs]"),
     }
 }

@@ -187,16 +187,6 @@ pub fn times() {
         let (port, original) = both(&mut case, ROWS);
         println!("| blob dictionary | {ROWS} | {entries} | {port:.2} | {original:.2} |");
     }
-
-    // 65,536 runs of 4,294,967,295 rows and one of 65,535
-    let mut block = 65_537u32.to_le_bytes().to_vec();
-    block.extend((5 * 65_536 + 3u32).to_le_bytes());
-    (0..65_536).for_each(|_| block.extend([255, 255, 255, 255, 15]));
-    block.extend([0xFF, 0xFF, 0x03]);
-    block.extend((0..65_537).map(|run| (run % 2) as u8));
-    let reader = calls::open(0, 2, 0, 281_474_976_710_655, &block).reader;
-    let all = best(ROUNDS, || assert_eq!(calls::skip(reader, &block, 281_474_976_710_655).number, 0)) / 1000.0;
-    println!("\nskip over 281,474,976,710,655 rows in 65,537 runs: {all:.1} microseconds (the original can't read these counts)");
 }
 
 pub fn instructions() {
