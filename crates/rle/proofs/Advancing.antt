@@ -1,20 +1,27 @@
--- The loop of `advance`: what is left to pass reaches where the whole does. Assumes nothing.
+-- The loops of `pass_runs` and `pass_on`: what is left to pass reaches where the whole does. Assumes nothing.
 use Prim.Native.Nat.{ℕ, _+_, _-_, _≤_, _<_}
+use native.Mathlib.Nat.{zero-add}
 use native.Mathlib.Omega.{arith}
 use mathlib.Core.List.{List}
-use mathlib.Core.Path.{_≡_, sym, _∙_}
+use mathlib.Core.Path.{_≡_, refl, sym, ap, subst, _∙_}
 use lib.ListN.{replicate}
 use Rattle.rle.specs.declared.Spot.{Spot}
 use Rattle.rle.specs.declared.Rest.{Rest}
 use Rattle.rle.specs.declared.Rest.the-variants.{Rows, Wrong}
 use Rattle.rle.specs.declared.Reached.the-variants.{At, Stuck}
+use Rattle.rle.specs.declared.Gone.{Gone}
+use Rattle.rle.specs.declared.Gone.the-variants.{To, Stuck as StuckOnTheWay}
 use Rattle.rle.specs.Stepping.{spot, here, stepsFrom}
-use Rattle.rle.specs.Pieces.{restOf, reached}
+use Rattle.rle.specs.Pieces.{restOf, reached, Onward, Goes}
 use Rattle.rle.proofs.Steps.{reached-before}
-use Rattle.rle.proofs.RestOfRun.{Found, found, wrong-stuck, found-in, found-past}
+use Rattle.rle.proofs.OneRun.{here-is}
+use Rattle.rle.proofs.RestOfRun.{Found, found, wrong-stuck, found-in, found-past, rest-past}
 
 pub record Going (runs : ℕ) (counts : List ℕ) (n : ℕ) (s : Spot) (run at taken left : ℕ) : Type 0 where
   pub whole : reached (stepsFrom runs counts n s) ≡ reached (stepsFrom runs counts left (spot run at taken))
+
+pub going-start : (runs : ℕ) (counts : List ℕ) (n : ℕ) (s : Spot) → Going runs counts n s (s .run) (s .at) (s .taken) n
+going-start runs counts n s = record { whole = refl }
 
 module _ {runs : ℕ} {counts : List ℕ} {n : ℕ} {s : Spot} {run at taken left : ℕ} (w : Going runs counts n s run at taken left) where
   pub going-end : left ≤ 0 → At (spot run at taken) ≡ reached (stepsFrom runs counts n s)
@@ -36,3 +43,76 @@ module _ {runs : ℕ} {counts : List ℕ} {n : ℕ} {s : Spot} {run at taken lef
 
       pub going-on : free ≤ left → Going runs counts n s (run + 1) (at + len) 0 (left - free)
       going-on f = record { whole = w .whole ∙ rw (found-past going-found left l f) (reached-before (replicate free run) _) }
+
+-- ---- from the start of a run on, run by run up to the run `stop`: the same, however many runs there are behind it
+pub record Passing (counts : List ℕ) (stop n : ℕ) (s : Spot) (run at left : ℕ) : Type 0 where
+  pub going : (runs : ℕ) → stop ≤ runs → Going runs counts n s run at 0 left
+  pub ahead : s .run ≤ run
+  pub few : left ≤ n
+  pub inside : s .run ≤ stop → run ≤ stop
+
+pub passing-start : (counts : List ℕ) (stop n run at : ℕ) → Passing counts stop n (spot run at 0) run at n
+passing-start counts stop n run at = record {
+  going = λ runs h. record { whole = refl };
+  ahead = omega arith;
+  few = omega arith;
+  inside = λ h. h;
+}
+
+-- the count of a run before `stop` is the same in more runs
+same-here : (counts : List ℕ) (stop runs : ℕ) (s : Spot) → stop ≤ runs → s .run < stop → here stop counts s ≡ here runs counts s
+same-here counts stop runs s le h = here-is stop counts s h refl ∙ sym (here-is runs counts s (omega arith) refl)
+
+module _ {counts : List ℕ} {stop n : ℕ} {s : Spot} {run at left : ℕ} (w : Passing counts stop n s run at left) where
+  -- no rows are left, at a place of this run
+  no-more : (taken : ℕ) → Onward stop s n (spot run at taken) 0
+  no-more taken = record {
+    ahead = w .ahead;
+    few = omega arith;
+    inside = w .inside;
+    stopped = λ l. absurd (omega arith);
+    fresh = λ l. absurd (omega arith);
+  }
+
+  pub passing-end : left ≤ 0 → Goes counts stop s n (To (spot run at 0) 0)
+  passing-end z =
+      let none : left ≡ 0 = omega arith in
+      record { leads = λ runs h. rw none at (w .going runs h .whole); onward = no-more 0 }
+
+  pub passing-stop : stop ≤ run → Goes counts stop s n (To (spot run at 0) left)
+  passing-stop z = record {
+    leads = λ runs h. w .going runs h .whole;
+    onward = record { ahead = w .ahead; few = w .few; inside = w .inside; stopped = λ l. z; fresh = λ l. refl };
+  }
+
+  module _ (l : 0 < left) {a : Rest} (e : a ≡ restOf (here stop counts (spot run at 0)) 0) where
+    in-more : (runs : ℕ) → stop ≤ runs → run < stop → a ≡ restOf (here runs counts (spot run at 0)) 0
+    in-more runs h i = e ∙ ap (λ c. restOf c 0) (same-here counts stop runs (spot run at 0) h i)
+
+    pub passing-wrong : a ≡ Wrong → run < stop → Goes counts stop s n StuckOnTheWay
+    passing-wrong b i = record { leads = λ runs h. going-wrong (w .going runs h) l (in-more runs h i) b; onward = tt }
+
+    module _ {free len : ℕ} (b : a ≡ Rows free len) where
+      pub passing-found : Found stop counts (spot run at 0) free len
+      passing-found = found stop counts (spot run at 0) e b
+
+      pub passing-in : left < free → Goes counts stop s n (To (spot run at left) 0)
+      unfolding reached stepsFrom
+      passing-in z = record {
+        leads = λ runs h. sym (rw (zero-add left) at (going-in (w .going runs h) l (in-more runs h (passing-found .inside)) b z));
+        onward = no-more left;
+      }
+
+      pub passing-on : free ≤ left → Passing counts stop n s (run + 1) (at + len) (left - free)
+      passing-on f = record {
+        going = λ runs h. going-on (w .going runs h) l (in-more runs h (passing-found .inside)) b f;
+        ahead = omega (arith, w .ahead);
+        few = omega (arith, w .few);
+        inside = λ h. omega (arith, passing-found .inside);
+      }
+
+-- ---- no run is left
+module _ {runs : ℕ} {counts : List ℕ} {n : ℕ} {s : Spot} {run at taken left : ℕ} (w : Going runs counts n s run at taken left) where
+  pub going-past : 0 < left → runs ≤ run → Stuck ≡ reached (stepsFrom runs counts n s)
+  unfolding reached
+  going-past l h = sym (w .whole ∙ rw (wrong-stuck runs counts (spot run at taken) (rest-past runs counts (spot run at taken) h) left l refl))

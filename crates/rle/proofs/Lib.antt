@@ -7,3 +7,4 @@ pub mod Pieces
 pub mod Walking
 pub mod Opening
 pub mod Whole
+mod ShortRuns

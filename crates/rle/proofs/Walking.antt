@@ -1,13 +1,13 @@
--- The walk over the counts: what its loop keeps, its returns, and that a refusal is never 0. Assumes nothing.
+-- The walk over the counts: what its loops keep, their returns, and that a refusal is never 0. Assumes nothing.
 use Prim.Native.Nat.{ℕ, zero, suc, _+_, _-_, _*_, _≤_, _<_}
 use native.Mathlib.Nat.{add-zero, add-assoc, zero-add}
 use native.Mathlib.Omega.{arith}
 use mathlib.Core.Bool.{Bool, true, false, cond}
 use mathlib.Core.List.{List, [], _∷_}
-use mathlib.Core.Path.{_≡_, refl, sym, _∙_}
+use mathlib.Core.Path.{_≡_, refl, sym, ap, subst, _∙_}
 use lib.Dec.{eqb}
-use lib.ListN.{length, drop, drop-of-length-le}
-use lib.Seq.{drop-cons, drop-drop}
+use lib.ListN.{length, take, drop, drop-of-length-le, length-drop}
+use lib.Seq.{drop-cons, drop-drop, take-length}
 use borrow.Author.Tests.{eq-eqb, ne-eqb}
 use Rattle.limits.specs.Refusals.{COUNTS, VARINT}
 use Rattle.varint.specs.declared.Count.{Count}
@@ -16,7 +16,10 @@ use Rattle.varint.specs.Varint.{countOf, countAt}
 use Rattle.varint.proofs.Within.{at-within, at-small}
 use Rattle.rle.specs.declared.Walked.{Walked}
 use Rattle.rle.specs.declared.Walked.the-variants.{Total, Refused}
+use Rattle.rle.specs.declared.First.{First}
+use Rattle.rle.specs.declared.First.the-variants.{Counts, Refused as RefusedFirst}
 use Rattle.rle.specs.RunLength.{plus, walkedPast, walked}
+use Rattle.rle.specs.Pieces.{walkedOn, Walks}
 
 -- ---- a refusal's number is not 0; of a sum nothing is said
 abbrev pub Told : Walked → Type 0
@@ -46,12 +49,12 @@ walk-told (suc runs) (b ∷ s) =
     told-counted (countOf (b ∷ s)) (λ len. walked runs (drop len (b ∷ s))) (λ len. walk-told runs (drop len (b ∷ s)))
 
 -- ---- one run of the walk, from a place on
-plus-plus : (a b : ℕ) (w : Walked) → plus a (plus b w) ≡ plus (a + b) w
+pub plus-plus : (a b : ℕ) (w : Walked) → plus a (plus b w) ≡ plus (a + b) w
 unfolding plus
 plus-plus a b (Total t) = rw add-assoc
 plus-plus a b (Refused e) = refl
 
-plus-zero : (w : Walked) → plus 0 w ≡ w
+pub plus-zero : (w : Walked) → plus 0 w ≡ w
 unfolding plus
 plus-zero (Total t) = rw zero-add
 plus-zero (Refused e) = refl
@@ -94,7 +97,7 @@ module _ (s : List ℕ) (at : ℕ) where
   unfolding walked
   all-used h = rw (drop-of-length-le s {i = at} h)
 
--- ---- what the loop of `walk` keeps: what is added up so far, and the rest of the walk, is the whole; each byte passed adds less than 2^32
+-- ---- what the loops of `walk_few` and `walk` keep: what is added up so far, and the rest of the walk, is the whole; each byte passed adds less than 2^32
 pub record Walking (s : List ℕ) (runs at total left : ℕ) : Type 0 where
   pub whole : walked runs s ≡ plus total (walked left (drop at s))
   pub within : at ≤ length s
@@ -140,3 +143,45 @@ module _ {s : List ℕ} {runs at total left : ℕ} (w : Walking s runs at total 
               within = i .1;
               small = omega arith;
             }
+
+-- ---- the first counts by themselves, whatever the counts behind them are
+module _ {s : List ℕ} (n : ℕ) where
+  pub few-refused : {e : ℕ} → ((k : ℕ) → Refused e ≡ walked (n + k) s) → Walks s n (RefusedFirst e)
+  unfolding walkedOn
+  few-refused h = record { whole = λ k. sym (h k); within = tt }
+
+  pub few-counted : {at total left : ℕ} → ((k : ℕ) → Walking s (n + k) at total (left + k)) → left ≤ 0 → Walks s n (Counts total at)
+  unfolding walkedOn
+  few-counted {at} {total} {left} w z = record { whole = λ k. whole k; within = (w 0 .within, w 0 .small) }
+    where
+      whole : (k : ℕ) → walked (n + k) s ≡ plus total (walked k (drop at s))
+      whole k = let m : left + k ≡ k = omega arith in w k .whole ∙ rw m
+
+  pub few-step : {at total left : ℕ} → ((k : ℕ) → Walking s (n + k) at total (left + k)) → 0 < left → at < length s
+      → {r : Count} → r ≡ countAt s at → {v len : ℕ} → r ≡ Number v len → (v ≡ 0 → ⊥) → (k : ℕ) → Walking s (n + k) (at + len) (total + v) (left - 1 + k)
+  few-step {at} {total} {left} w p h e {v} {len} b z k =
+      let m : left + k - 1 ≡ left - 1 + k = omega arith in
+      rw m at (walk-step (w k) (omega arith) h e b z)
+
+-- and the walk goes on behind them: those from a place on are lent as a part of the list
+module _ {s : List ℕ} {runs at total left few : ℕ} (w : Walking s runs at total left) (h : few ≤ left) {r : First}
+    (lent : Walks (take (length s - at) (drop at s)) few r) where
+  f : Walks (drop at s) few r
+  f = subst (λ (l : List ℕ). Walks l few r) (ap (λ (n : ℕ). take n (drop at s)) (sym (length-drop at s)) ∙ take-length (drop at s)) lent
+
+  in-two : walked left (drop at s) ≡ walkedOn r (λ len. walked (left - few) (drop len (drop at s)))
+  in-two = let m : left ≡ few + (left - few) = omega arith in ap (λ (n : ℕ). walked n (drop at s)) m ∙ f .whole (left - few)
+
+  pub first-refused : {e : ℕ} → r ≡ RefusedFirst e → Refused e ≡ walked runs s
+  unfolding walkedOn plus
+  first-refused b = sym (w .whole ∙ rw in-two (rw b))
+
+  pub first-counted : {rows len : ℕ} → r ≡ Counts rows len → Walking s runs (at + len) (total + rows) (left - few)
+  unfolding walkedOn
+  first-counted {rows} {len} b =
+      let i : (len ≤ length (drop at s)) × (rows ≤ 4294967296 * len) = rw b at (f .within) in
+      record {
+        whole = w .whole ∙ rw (in-two, b, drop-drop len at s) (plus-plus total rows (walked (left - few) (drop (at + len) s)));
+        within = omega (arith, i .0, length-drop at s, w .within);
+        small = omega (arith, i .1, w .small);
+      }

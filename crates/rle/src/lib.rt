@@ -1,5 +1,6 @@
 // Run-length blocks: the head, the walk over the counts, and steps from run to run.
 use limits::MOST_ITEMS;
+use limits::MOST_ROWS;
 use limits::refusal;
 use varint::Count;
 ghost use mathlib.Core.Path.{_≡_};
@@ -7,12 +8,18 @@ ghost use Prim.Native.Nat.{_≤_};
 ghost use lib.ListN.{length};
 ghost use Rattle.limits.specs.Limits.{MOST_BYTES, MOST_ITEMS};
 ghost use Rattle.rle.specs.RunLength.{walked};
-ghost use Rattle.rle.specs.Stepping.{here, stepsFrom};
-ghost use Rattle.rle.specs.Pieces.{headFound, restOf, pieceIn, reached};
+ghost use Rattle.rle.specs.Stepping.{spot, here, stepsFrom};
+ghost use Rattle.rle.specs.Pieces.{headFound, restOf, pieceIn, reached, Walks, Goes};
 
 // What a walk over the counts comes to: their sum, or the number of the first fault met.
 pub enum Walked {
     Total { rows: u64 },
+    Refused(u8),
+}
+
+// What the first counts of a walk come to: the rows and the bytes of all of them, or the number of the first fault met.
+enum First {
+    Counts { rows: u64, len: usize },
     Refused(u8),
 }
 
@@ -49,7 +56,46 @@ pub enum Reached {
     Stuck,
 }
 
-// Walks the counts of `runs` runs: none is 0, and they fill `s`.
+// Where rows that are passed over run by run lead: to a place, and the rows that are left to pass from there; or a count is missing or wrong.
+enum Gone {
+    To { spot: Spot, left: usize },
+    Stuck,
+}
+
+// How many counts are taken one by one before a group is looked at again.
+const ONE_BY_ONE: usize = 32;
+
+// Walks the first `n` counts of `s`, one by one: none is 0.
+fn walk_few(s: &[u8], n: usize) -> First
+    requires { ⌜ length (now s) ≤ MOST_BYTES ⌝ }
+    ensures { λ r. ⌜ Walks (now (s .entry)) n r ⌝ }
+{
+    let mut at: usize = 0;
+    let mut total: u64 = 0;
+    let mut left = n;
+    while 0 < left {
+        if s.len() <= at {
+            return First::Refused(refusal::COUNTS);
+        }
+        let count = varint::decode_u32(s, at);
+        let Count::Number { value, len } = count else {
+            return First::Refused(refusal::VARINT);
+        };
+        if value == 0 {
+            return First::Refused(refusal::COUNTS);
+        }
+        total += value as u64;
+        at += len;
+        left -= 1;
+    }
+    First::Counts {
+        rows: total,
+        len: at,
+    }
+}
+
+// Walks the counts of `runs` runs: none is 0, and they fill `s`. Counts of a byte each go in groups; where a group has a longer one, some
+// go one by one, so that longer counts now and then don't have each group looked at in vain.
 pub fn walk(s: &[u8], runs: usize) -> Walked
     requires { ⌜ length (now s) ≤ MOST_BYTES ⌝ }
     ensures { λ r. ⌜ r ≡ walked runs (now (s .entry)) ⌝ }
@@ -58,19 +104,22 @@ pub fn walk(s: &[u8], runs: usize) -> Walked
     let mut total: u64 = 0;
     let mut left = runs;
     while 0 < left {
-        if s.len() <= at {
-            return Walked::Refused(refusal::COUNTS);
+        let short = shorts::pass(s, at, left, MOST_ROWS);
+        at += short.runs;
+        total += short.rows as u64;
+        left -= short.runs;
+        let few = area::least(left, ONE_BY_ONE);
+        let first = walk_few(&s[at..], few);
+        match first {
+            First::Refused(e) => {
+                return Walked::Refused(e);
+            }
+            First::Counts { rows, len } => {
+                total += rows;
+                at += len;
+                left -= few;
+            }
         }
-        let count = varint::decode_u32(s, at);
-        let Count::Number { value, len } = count else {
-            return Walked::Refused(refusal::VARINT);
-        };
-        if value == 0 {
-            return Walked::Refused(refusal::COUNTS);
-        }
-        total += value as u64;
-        at += len;
-        left -= 1;
     }
     if at < s.len() {
         return Walked::Refused(refusal::COUNTS);
@@ -181,31 +230,94 @@ pub fn take_piece(coded: bool, counts: &[u8], runs: usize, s: Spot, left: usize)
     }
 }
 
-// Passes over `n` rows, run by run.
-pub fn advance(counts: &[u8], runs: usize, from: Spot, n: usize) -> Reached
-    requires { ⌜ runs ≤ MOST_ITEMS ⌝ }
-    ensures { λ r. ⌜ r ≡ reached (stepsFrom runs (now (counts .entry)) n from) ⌝ }
+// Passes over `n` rows from the start of a run on, run by run, up to the run `stop`.
+fn pass_runs(counts: &[u8], stop: usize, first: usize, from: usize, n: usize) -> Gone
+    requires { ⌜ stop ≤ MOST_ITEMS ⌝ }
+    ensures { λ r. ⌜ Goes (now (counts .entry)) stop (spot first from 0) n r ⌝ }
 {
-    let mut run = from.run;
-    let mut at = from.at;
-    let mut taken = from.taken;
+    let mut run = first;
+    let mut at = from;
     let mut left = n;
     while 0 < left {
-        let rest = rest_of(counts, runs, Spot { run, at, taken });
+        let rest = rest_of(counts, stop, Spot { run, at, taken: 0 });
         let Rest::Rows { free, len } = rest else {
-            return Reached::Stuck;
+            if run < stop {
+                return Gone::Stuck;
+            }
+            return Gone::To {
+                spot: Spot { run, at, taken: 0 },
+                left,
+            };
         };
         if left < free {
-            return Reached::At(Spot {
-                run,
-                at,
-                taken: taken + left,
-            });
+            return Gone::To {
+                spot: Spot {
+                    run,
+                    at,
+                    taken: left,
+                },
+                left: 0,
+            };
         }
         left -= free;
         run += 1;
         at += len;
-        taken = 0;
     }
-    Reached::At(Spot { run, at, taken })
+    Gone::To {
+        spot: Spot { run, at, taken: 0 },
+        left: 0,
+    }
+}
+
+// Passes over `n` rows from the start of a run on: runs whose counts are a byte each in groups, then some one by one, and so on.
+fn pass_on(counts: &[u8], runs: usize, first: usize, from: usize, n: usize) -> Reached
+    requires { ⌜ runs ≤ MOST_ITEMS ⌝ }
+    ensures { λ r. ⌜ r ≡ reached (stepsFrom runs (now (counts .entry)) n (spot first from 0)) ⌝ }
+{
+    let mut run = first;
+    let mut at = from;
+    let mut left = n;
+    while 0 < left {
+        if runs <= run {
+            return Reached::Stuck;
+        }
+        let short = shorts::pass(counts, at, runs - run, left);
+        run += short.runs;
+        at += short.runs;
+        left -= short.rows;
+        let stop = area::least(runs, run + ONE_BY_ONE);
+        let gone = pass_runs(counts, stop, run, at, left);
+        let Gone::To { spot, left: rows } = gone else {
+            return Reached::Stuck;
+        };
+        if rows == 0 {
+            return Reached::At(spot);
+        }
+        run = spot.run;
+        at = spot.at;
+        left = rows;
+    }
+    Reached::At(Spot { run, at, taken: 0 })
+}
+
+// Passes over `n` rows: those of the run that is begun, and then the others.
+pub fn advance(counts: &[u8], runs: usize, from: Spot, n: usize) -> Reached
+    requires { ⌜ runs ≤ MOST_ITEMS ⌝ }
+    ensures { λ r. ⌜ r ≡ reached (stepsFrom runs (now (counts .entry)) n from) ⌝ }
+{
+    if n == 0 {
+        return Reached::At(from);
+    }
+    let rest = rest_of(counts, runs, from);
+    let Rest::Rows { free, len } = rest else {
+        return Reached::Stuck;
+    };
+    if n < free {
+        return Reached::At(Spot {
+            run: from.run,
+            at: from.at,
+            taken: from.taken + n,
+        });
+    }
+    pass_on(counts, runs, from.run + 1, from.at + len, n - free)
 }

@@ -1,86 +1,70 @@
--- `rle::advance` meets its contract. The loop keeps where the rows that are left to pass lead to; the measure is the runs ahead. Assumes nothing.
-use borrow.Author.Needs.{needs}
-use Prim.Native.Nat.{_-_}
+-- `rle::advance` meets its contract: the rows of the run that is begun, and then those from the next run's start on. Assumes nothing.
 use native.Mathlib.Omega.{arith}
-use mathlib.Core.Path.{refl}
-use Rattle.rle.specs.Stepping.{spot}
-use Rattle.rle.proofs.Advancing as laws
+use mathlib.Core.Path.{sym, _∙_}
+use borrow.Author.Needs.{needs}
+use Rattle.rle.proofs.RestOfRun.{found}
+use Rattle.rle.proofs.Advancing.{going-start, going-end, going-wrong, going-in, going-on}
 use Rattle.rle.proofs.advance.Statement.{statement}
 use Rattle.rle.proofs.advance.Tie as tie
 
-abbrev Inv-loop : tie.InvT-loop
-Inv-loop counts runs n run₀ at₀ taken₀ left₀ run at taken left = laws.Going runs counts n (spot run₀ at₀ taken₀) run at taken left
+returns : tie.Need-returns
+returns c = going-end (going-start _ _ _ _) (omega arith)
 
-abbrev μ-loop : tie.MeasureT-loop
-μ-loop counts runs n run₀ at₀ taken₀ left₀ run at taken left = runs - run
-
-loop-holds : tie.Need-loop-holds Inv-loop μ-loop
-loop-holds c = record { whole = refl }
-
-rest-of-requires : tie.Need-rest-of-requires Inv-loop μ-loop
+rest-of-requires : tie.Need-rest-of-requires
 rest-of-requires c κs = search needs
 
-enum-known-rest : tie.Need-enum-known-rest Inv-loop μ-loop
+enum-known-rest : tie.Need-enum-known-rest
 enum-known-rest c = search needs
 
-enum-told : tie.Need-enum-told Inv-loop μ-loop
+enum-told : tie.Need-enum-told
 enum-told c = search needs
 
-returns : tie.Need-returns Inv-loop μ-loop
-returns c = laws.going-wrong (c .before .before .before .before .loop .inv) (omega arith) (c .before .before .rest-of .ensures) (c .enum-told .given .1)
+returns-2 : tie.Need-returns-2
+returns-2 c = going-wrong (going-start _ _ _ _) (omega arith) (c .before .before .rest-of .ensures) (c .enum-told .given .1)
 
-add-t14 : tie.Need-add-t14 Inv-loop μ-loop
-add-t14 c =
-    let d = c .before .before in
-    let f = laws.going-found (d .before .before .before .before .loop .inv) (omega arith) (d .before .before .rest-of .ensures) (d .rest .given .1) in
+add-t9 : tie.Need-add-t9
+add-t9 c =
+    let d = c .before .before .before in
+    let f = found _ _ _ (d .before .before .rest-of .ensures) (d .rest .given .1) in
     omega arith
 
-returns-2 : tie.Need-returns-2 Inv-loop μ-loop
-returns-2 c =
-    let d = c .before .before in
-    laws.going-in (d .before .before .before .before .loop .inv) (omega arith) (d .before .before .rest-of .ensures) (d .rest .given .1) (omega arith)
+returns-3 : tie.Need-returns-3
+returns-3 c =
+    let d = c .before .before .before in
+    going-in (going-start _ _ _ _) (omega arith) (d .before .before .rest-of .ensures) (d .rest .given .1) (omega arith)
 
-add-run : tie.Need-add-run Inv-loop μ-loop
-add-run c =
-    let d = c .before .before in
-    let f = laws.going-found (d .before .before .before .before .loop .inv) (omega arith) (d .before .before .rest-of .ensures) (d .rest .given .1) in
+add-pass-on : tie.Need-add-pass-on
+add-pass-on c =
+    let d = c .before .before .before in
+    let f = found _ _ _ (d .before .before .rest-of .ensures) (d .rest .given .1) in
     omega arith
 
-add-at : tie.Need-add-at Inv-loop μ-loop
-add-at c =
-    let d = c .before .before in
-    let f = laws.going-found (d .before .before .before .before .loop .inv) (omega arith) (d .before .before .rest-of .ensures) (d .rest .given .1) in
+add-pass-on-2 : tie.Need-add-pass-on-2
+add-pass-on-2 c =
+    let d = c .before .before .before .before in
+    let f = found _ _ _ (d .before .before .rest-of .ensures) (d .rest .given .1) in
     omega arith
 
-loop-less : tie.Need-loop-less Inv-loop μ-loop
-loop-less c =
-    let d = c .before .before in
-    let f = laws.going-found (d .before .before .before .before .loop .inv) (omega arith) (d .before .before .rest-of .ensures) (d .rest .given .1) in
-    omega arith
+pass-on-requires : tie.Need-pass-on-requires
+pass-on-requires c κs = search needs
 
-loop-again : tie.Need-loop-again Inv-loop μ-loop
-loop-again c =
-    let d = c .before .before in
-    laws.going-on (d .before .before .before .before .loop .inv) (omega arith) (d .before .before .rest-of .ensures) (d .rest .given .1) (omega arith)
-
-returns-3 : tie.Need-returns-3 Inv-loop μ-loop
-returns-3 c = laws.going-end (c .before .loop .inv) (omega arith)
+returns-4 : tie.Need-returns-4
+returns-4 c =
+    let d = c .before .before .before .before .before in
+    c .pass-on .ensures ∙ sym (going-on (going-start _ _ _ _) (omega arith) (d .before .before .rest-of .ensures) (d .rest .given .1) (omega arith) .whole)
 
 pub advance-spec : {M : Type 1} → statement M
 advance-spec =
     tie.close
     (tie.spec
-    Inv-loop
-    μ-loop
-    loop-holds
+    returns
     rest-of-requires
     enum-known-rest
     enum-told
-    returns
-    add-t14
     returns-2
-    add-run
-    add-at
-    loop-less
-    loop-again
-    returns-3)
+    add-t9
+    returns-3
+    add-pass-on
+    add-pass-on-2
+    pass-on-requires
+    returns-4)

@@ -1,72 +1,105 @@
 -- `rle::walk` meets its contract. The loop keeps that the sum so far and the walk over the rest are the whole; the measure is the runs left.
 -- Assumes nothing.
-use borrow.Author.Needs.{needs}
+use Prim.Native.Nat.{_+_, _-_, _≤_}
 use native.Mathlib.Omega.{arith}
-use Rattle.rle.proofs.Walking as laws
+use borrow.Author.Needs.{needs}
+use Rattle.rle.proofs.Walking.{Walking, walking-start, walk-over, walk-sum, first-refused, first-counted}
+use Rattle.rle.proofs.ShortRuns.{walking-shorts}
 use Rattle.rle.proofs.walk.Statement.{statement}
 use Rattle.rle.proofs.walk.Tie as tie
 
 abbrev Inv-loop : tie.InvT-loop
-Inv-loop s runs at₀ total₀ left₀ at total left = laws.Walking s runs at total left
+Inv-loop s runs at₀ total₀ left₀ at total left = Walking s runs at total left
 
 abbrev μ-loop : tie.MeasureT-loop
 μ-loop s runs at₀ total₀ left₀ at total left = left
 
+abbrev entry : tie.At-loop Inv-loop μ-loop → tie.Start Inv-loop μ-loop
+entry h = h .before .before
+
+-- the counts that went in groups
+grouped : (c : tie.After-pass Inv-loop μ-loop) → let a = entry (c .before .before) .args in let l = c .before .before .loop in
+    Walking (a .s .now) (a .runs) (l .at + c .pass .result .runs) (l .total + c .pass .result .rows) (l .left - c .pass .result .runs)
+grouped c = walking-shorts (c .before .before .loop .inv) (c .pass .ensures)
+
+-- those that go one by one are some of the rest
+abbrev at-pass : tie.After-least Inv-loop μ-loop → tie.After-pass Inv-loop μ-loop
+at-pass c = c .before .before .before
+
+few-within : (c : tie.After-least Inv-loop μ-loop) → let d = at-pass c in c .least .result ≤ d .before .before .loop .left - d .pass .result .runs
+few-within c = omega (arith, c .least .ensures)
+
+abbrev at-least : tie.After-known-told2 Inv-loop μ-loop → tie.After-least Inv-loop μ-loop
+at-least c = c .before .before .before .before .before
+
+one-by-one : (c : tie.After-known-told2 Inv-loop μ-loop) → let l = at-least c in let p = at-pass l in let a = entry (p .before .before) .args in let h = p .before .before .loop in
+    Walking (a .s .now) (a .runs) (h .at + p .pass .result .runs + c .before .first2 .given .0 .1 .0)
+    (h .total + p .pass .result .rows + c .before .first2 .given .0 .0) (h .left - p .pass .result .runs - l .least .result)
+one-by-one c =
+    let d = c .before .before .before in
+    first-counted (grouped (at-pass (at-least c))) (few-within (at-least c)) (d .walk-few .ensures) (c .before .first2 .given .1)
+
 loop-holds : tie.Need-loop-holds Inv-loop μ-loop
-loop-holds c = laws.walking-start _ _
+loop-holds c = walking-start _ _
 
-returns : tie.Need-returns Inv-loop μ-loop
-returns c = laws.walk-used (c .before .before .loop .inv) (omega arith) (omega arith)
-
-decode-u32-requires : tie.Need-decode-u32-requires Inv-loop μ-loop
-decode-u32-requires c κs = search needs
-
-enum-known-count : tie.Need-enum-known-count Inv-loop μ-loop
-enum-known-count c = search needs
-
-enum-told : tie.Need-enum-told Inv-loop μ-loop
-enum-told c = search needs
-
-returns-2 : tie.Need-returns-2 Inv-loop μ-loop
-returns-2 c =
-    let d = c .before .before in
-    laws.walk-bad (d .before .before .before .loop .inv) (omega arith) (omega arith) (d .decode-u32 .ensures) (c .enum-told .given .1)
-
-returns-3 : tie.Need-returns-3 Inv-loop μ-loop
-returns-3 c =
-    let d = c .before .before in
-    let l = d .before .before .before .before .before in
-    laws.walk-zero (l .loop .inv) (omega arith) (omega arith) (d .before .before .decode-u32 .ensures) (d .count .given .1) (omega arith)
-
-cast-total : tie.Need-cast-total Inv-loop μ-loop
-cast-total c = search needs
-
-add-total : tie.Need-add-total Inv-loop μ-loop
-add-total c = search needs
+pass-requires : tie.Need-pass-requires Inv-loop μ-loop
+pass-requires c κs = search needs
 
 add-at : tie.Need-add-at Inv-loop μ-loop
-add-at c =
-    let d = c .before .before in
-    let l = d .before .before .before .before .before in
-    omega (arith, laws.walk-within (l .loop .inv) (omega arith) (omega arith) (d .before .before .decode-u32 .ensures) (d .count .given .1))
+add-at c = omega (arith, grouped (c .before) .within)
+
+add-total : tie.Need-add-total Inv-loop μ-loop
+add-total c = omega (arith, grouped (c .before) .small, grouped (c .before) .within)
 
 sub-left : tie.Need-sub-left Inv-loop μ-loop
-sub-left c = search needs
+sub-left c = c .before .before .pass .ensures .few
+
+least-requires : tie.Need-least-requires Inv-loop μ-loop
+least-requires c κs = search needs
+
+sub-walk-few : tie.Need-sub-walk-few Inv-loop μ-loop
+sub-walk-few c = omega (arith, grouped (at-pass c) .within)
+
+part-walk-few-start : tie.Need-part-walk-few-start Inv-loop μ-loop
+part-walk-few-start c = omega (arith, grouped (at-pass c) .within)
+
+part-walk-few-end : tie.Need-part-walk-few-end Inv-loop μ-loop
+part-walk-few-end c = search needs
+
+walk-few-requires : tie.Need-walk-few-requires Inv-loop μ-loop
+walk-few-requires c κs = search needs
+
+enum-known-first : tie.Need-enum-known-first Inv-loop μ-loop
+enum-known-first c = search needs
+
+returns : tie.Need-returns Inv-loop μ-loop
+returns c =
+    let d = c .before .before .before in
+    first-refused (grouped (at-pass (d .before .before))) (few-within (d .before .before)) (d .walk-few .ensures) (c .before .first .given .1)
+
+enum-known-first-2 : tie.Need-enum-known-first-2 Inv-loop μ-loop
+enum-known-first-2 c = search needs
+
+add-total-2 : tie.Need-add-total-2 Inv-loop μ-loop
+add-total-2 c = omega (arith, one-by-one c .small, one-by-one c .within)
+
+add-at-2 : tie.Need-add-at-2 Inv-loop μ-loop
+add-at-2 c = omega (arith, one-by-one c .within)
+
+sub-left-2 : tie.Need-sub-left-2 Inv-loop μ-loop
+sub-left-2 c = search needs
 
 loop-less : tie.Need-loop-less Inv-loop μ-loop
 loop-less c = search needs
 
 loop-again : tie.Need-loop-again Inv-loop μ-loop
-loop-again c =
-    let d = c .before .before in
-    let l = d .before .before .before .before .before in
-    laws.walk-step (l .loop .inv) (omega arith) (omega arith) (d .before .before .decode-u32 .ensures) (d .count .given .1) (c .if2 .left)
+loop-again c = one-by-one c
 
-returns-4 : tie.Need-returns-4 Inv-loop μ-loop
-returns-4 c = laws.walk-over (c .before .before .loop .inv) (omega arith) (omega arith)
+returns-2 : tie.Need-returns-2 Inv-loop μ-loop
+returns-2 c = walk-over (c .before .before .loop .inv) (omega arith) (omega arith)
 
-returns-5 : tie.Need-returns-5 Inv-loop μ-loop
-returns-5 c = laws.walk-sum (c .before .before .loop .inv) (omega arith) (omega arith)
+returns-3 : tie.Need-returns-3 Inv-loop μ-loop
+returns-3 c = walk-sum (c .before .before .loop .inv) (omega arith) (omega arith)
 
 pub walk-spec : {M : Type 1} → statement M
 walk-spec =
@@ -75,17 +108,22 @@ walk-spec =
     Inv-loop
     μ-loop
     loop-holds
-    returns
-    decode-u32-requires
-    enum-known-count
-    enum-told
-    returns-2
-    returns-3
-    cast-total
-    add-total
+    pass-requires
     add-at
+    add-total
     sub-left
+    least-requires
+    sub-walk-few
+    part-walk-few-start
+    part-walk-few-end
+    walk-few-requires
+    enum-known-first
+    returns
+    enum-known-first-2
+    add-total-2
+    add-at-2
+    sub-left-2
     loop-less
     loop-again
-    returns-4
-    returns-5)
+    returns-2
+    returns-3)
