@@ -29,7 +29,7 @@ extern "C" {
 /* What comes back. */
 enum {
     IDZ_DONE = 0,
-    IDZ_COLUMN = 1,      /* kind, encoding or width is not one of the fifty pairs */
+    IDZ_COLUMN = 1,      /* kind, encoding or width is not one of the pairs */
     IDZ_ITEM = 2,        /* an appended item doesn't fit its kind (building) */
     IDZ_LIMIT = 3,       /* a limit is passed: rows 281,474,976,710,655; stored items or runs 1,048,576; entries 65,536;
                             block 16,777,216 bytes */
@@ -58,7 +58,8 @@ enum {
     IDZ_TIMESTAMP_TZ = 6,
     IDZ_INTERVAL = 7, /* one i64: months times 2^32 plus days modulo 2^32 */
     IDZ_CHAR = 8,
-    IDZ_BLOB = 9
+    IDZ_BLOB = 9,
+    IDZ_F64 = 11 /* one i64: the bits of a double, which rows are compared by */
 };
 
 /* Encodings. */

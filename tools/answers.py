@@ -15,7 +15,7 @@ import random
 import sys
 
 import model
-from model import BLOB, CHAR, FIXED, Reader, Refused
+from model import BLOB, CHAR, F64, FIXED, KINDS, Reader, Refused
 
 SEED = 1
 ROOM = 2300000  # bytes of the program's room for a block
@@ -314,7 +314,7 @@ I16, I32 = 1, 2
 def all_pairs(s):
     """Every kind with every encoding: read whole, by random calls, and with an area one short."""
     for encoding in range(5):
-        for kind in range(10):
+        for kind in KINDS:
             for turn in range(2):
                 width = 0 if kind != CHAR else s.random.choice((1, 3, 4))
                 limited = turn == 0 and kind in FIXED
@@ -349,7 +349,7 @@ def wide_chars(s):
 def no_rows(s):
     """Zero rows of every pair, and a dictionary of which no entry is used."""
     for encoding in range(5):
-        for kind in range(10):
+        for kind in KINDS:
             width = 3 if kind == CHAR else 0
             s.load(model.build(kind, encoding, width, []))
             s.open(kind, encoding, width, 0, expect=0)
@@ -396,6 +396,28 @@ def samples(s):
     s.give(1, expect=0)
 
 
+ZERO, MINUS_ZERO, ONE, MINUS_INFINITY = map(model.float_bits, (0.0, -0.0, 1.0, float("-inf")))
+QUIET, OTHER, SIGNALLING = 0x7FF8000000000000, 0x7FF8000000000001, 0x7FF0000000000001
+RATES = [ZERO, MINUS_ZERO, ZERO, None, ZERO, QUIET, QUIET, OTHER, SIGNALLING, MINUS_INFINITY, ONE, ONE]
+
+
+def rates(s):
+    """Floats by their bits: the two zeros are two rows, a null is neither, and NaNs are equal exactly if their bits are."""
+    s.load(bytes.fromhex("02000000 02000000 02 01 000000000000F03F 0000000000000080"))
+    s.open(F64, 2, 0, 3, expect=0)
+    s.batch(MOST, 3, 3, 0, 0, expect=0)
+    for encoding in range(5):
+        s.load(model.build(F64, encoding, 0, RATES))
+        s.open(F64, encoding, 0, len(RATES), expect=0)
+        assert s.reader.runs == (0, 0, 10, 10, 10)[encoding] and s.reader.entries == (0, 0, 0, 0, 7)[encoding]
+        s.give(MOST, expect=0)
+        s.again()
+        s.skip(1, expect=0)
+        s.give(1, expect=0)
+        s.skip(5, expect=0)
+        s.give_short(2)
+
+
 def refusals(s):
     """A block for each refusal of each encoding, and for the order of the rules."""
     block = s.load
@@ -406,8 +428,8 @@ def refusals(s):
     # 1: names, as they come
     block(b"")
     for e in range(5):
-        for kind, width in ((10, 0), (256, 0), (MOST, 0), (0, 1), (2, 256), (3, 8), (7, MOST), (CHAR, 0), (CHAR, 256),
-                            (CHAR, MOST), (BLOB, 1), (BLOB, 256)):
+        for kind, width in ((10, 0), (12, 0), (256, 0), (MOST, 0), (0, 1), (2, 256), (3, 8), (7, MOST), (CHAR, 0), (CHAR, 256),
+                            (CHAR, MOST), (BLOB, 1), (BLOB, 256), (F64, 1), (F64, 8)):
             refuse(1, kind, e, width, 0)
     for e in (5, 256, MOST):
         refuse(1, 2, e, 0, 0)
@@ -427,7 +449,7 @@ def refusals(s):
     refuse(10, 2, 4, 0, MOST_ROWS)
 
     # plain: 11, 10, 14
-    for kind in range(9):
+    for kind in (*FIXED, CHAR):
         width = 3 if kind == CHAR else 0
         size = model.size_of(kind, width)
         block(b"\1" * (2 * size))
@@ -829,7 +851,7 @@ def values_of(field, r):
     here = getattr(r, field)
     near = {here - 1, here + 1, here + 2**32, MOST}
     return sorted(n for n in {
-        "kind": {*range(11), 255, here + 256, MOST},
+        "kind": {*range(13), 255, here + 256, MOST},
         "encoding": {*range(6), here + 256, MOST},
         "width": {0, 1, 2, 3, 255, 256, MOST},
         "rows": {0, *near, ITEMS, ITEMS + 1, MOST_ROWS, MOST_ROWS + 1},
@@ -926,7 +948,7 @@ def forged_by_chance(s):
     """Several fields at once, and a byte of the block."""
     pick, chance = s.random.choice, s.random.random
     all_bases = list(bases())
-    for _ in range(40):
+    for _ in range(30):
         kind, encoding, width, rows = pick(all_bases)
         block = model.build(kind, encoding, width, rows)
         s.load(block)
@@ -1049,8 +1071,8 @@ def nine_first(s):
 def damaged_by_chance(s):
     """A byte of a block, a cut or a longer end: before opening, or after it."""
     pick, chance = s.random.choice, s.random.random
-    for _ in range(40):
-        kind = pick((0, 1, 2, 4, 7, CHAR, BLOB, BLOB))
+    for _ in range(30):
+        kind = pick((0, 1, 2, 4, 7, F64, CHAR, BLOB, BLOB))
         encoding = pick((0, 1, 2, 2, 3, 3, 4, 4))
         width = 2 if kind == CHAR else 0
         rows = any_rows(s, kind, width, s.random.randint(1, 6))
@@ -1071,7 +1093,7 @@ def damaged_by_chance(s):
             s.wander(4)
 
 
-SECTIONS = (samples, all_pairs, wide_chars, no_rows, refusals, cuts, spellings, longer_than_needed, sound_all_the_same, run_two, many_bytes,
+SECTIONS = (samples, all_pairs, wide_chars, no_rows, rates, refusals, cuts, spellings, longer_than_needed, sound_all_the_same, run_two, many_bytes,
             most_rows, most_entries, most_items, forged, forged_heads, forged_lengths, damaged, nine_first, forged_by_chance,
             damaged_by_chance)
 

@@ -21,9 +21,9 @@ import sys
 
 import builder
 import model
-from answers import I16, I32, MOST, limits, number
+from answers import I16, I32, MINUS_ZERO, MOST, ONE, RATES, ZERO, limits, number
 from builder import AREAS, FIELDS, MOST_BYTES, MOST_ENTRIES, MOST_ITEMS, MOST_ROWS, Nine
-from model import BLOB, CHAR, FIXED, MOST_RUN, NULL_KEY
+from model import BLOB, CHAR, F64, FIXED, KINDS, MOST_RUN, NULL_KEY
 
 SEED = 1
 INPUT = 300000  # bytes of the program's room for the commands
@@ -334,7 +334,7 @@ def any_row(s, kind, width, wild=False):
 
 
 def pairs():
-    for kind in range(10):
+    for kind in KINDS:
         for encoding in range(5):
             yield kind, encoding, 3 if kind == CHAR else 0
 
@@ -349,7 +349,7 @@ def bases():
 # ---- the cases
 
 def samples(s):
-    """The document's samples: A to E and H."""
+    """The document's samples: A to E and H; floats with both zeros."""
     def held(kind, encoding, width, rows, block, size=None):
         s.build(kind, encoding, width, rows)
         s.estimate(size=size)
@@ -363,8 +363,10 @@ def samples(s):
     held(CHAR, 0, 3, [b"a", b"abc", b"x\0y"], "610000 616263 780079")
     held(DATE, 0, 0, [1], "00000001")
     held(INTERVAL, 0, 0, [14 * 2**32 + 2**32 - 3], "0000000E FFFFFFFD")
+    held(F64, 2, 0, [ONE, ONE, MINUS_ZERO], "02000000 02000000 02 01 000000000000F03F 0000000000000080", 24)
+    held(F64, 2, 0, [ZERO, MINUS_ZERO, ZERO], "03000000 03000000 010101" + "00" * 15 + "80" + "00" * 8, 34)
     for encoding, block, size in ((0, "", 0), (1, "00000000", 0), (2, "", 4), (3, "", 4), (4, "00" * 12, 12)):
-        for kind in range(10):
+        for kind in KINDS:
             held(kind, encoding, 3 if kind == CHAR else 0, [], block, size)
             s.should(True, MOST, full=0)
 
@@ -521,6 +523,15 @@ def as_given(s):
             assert s.r["runs"] == 6 and s.r["entries"] in (0, 2)
             s.show()
             s.finish()
+    # floats by their bits
+    for encoding in range(5):
+        s.lend(items=96, ends=0, flags=2, counts=12, keys=12, lens=0)
+        s.create(F64, encoding)
+        for row in RATES:
+            s.append(row)
+        assert s.r["runs"] == (0, 0, 10, 10, 10)[encoding] and s.r["entries"] == (0, 0, 0, 0, 7)[encoding]
+        s.show()
+        s.finish()
     # a bool byte above 1 is true, and stays as it is
     for encoding in (2, 3, 4):
         s.lend(items=4, ends=0, flags=1, counts=4, keys=4, lens=0)
@@ -882,10 +893,10 @@ def targets(s):
 
 def creation(s):
     """Names, as they come."""
-    for kind in (0, 7, CHAR, BLOB, 10, 255, 256 + 2, 2**32 + 2, MOST):
+    for kind in (0, 7, CHAR, BLOB, 10, F64, 12, 255, 256 + 2, 2**32 + 2, MOST):
         for encoding in (0, 4, 5, 256, 2**32 + 1, MOST):
             for width in (0, 1, 255, 256, 257, MOST):
-                known = encoding < 5 and (kind < 10 and kind != CHAR and width == 0 or kind == CHAR and 1 <= width <= 255)
+                known = encoding < 5 and (kind in (0, 7, BLOB, F64) and width == 0 or kind == CHAR and 1 <= width <= 255)
                 s.create(kind, encoding, width, MOST if known else 7, expect=0 if known else 1)
     s.create(10, 0, expect=1)
     s.roomy()
@@ -899,7 +910,7 @@ def forged_values(field, r, encoding):
     v = r[field]
     about = {v + 1, max(v - 1, 0), 0, MOST}
     if field == "kind":
-        return about | {8, 9, 10, 255} | set(range(8))
+        return about | set(range(13)) | {255}
     if field == "encoding":
         return about | {1, 2, 3, 4, 5, 256}
     if field == "width":
@@ -1096,7 +1107,7 @@ def by_chance(s):
     """Random lists in areas that now and then are short, with the other calls between; then forged states of them."""
     pick, chance = s.random.choice, s.random.random
     for turn in range(120):
-        kind, encoding = turn % 10, turn // 2 % 5
+        kind, encoding = KINDS[turn % len(KINDS)], turn // 2 % 5
         width = pick((1, 2, 3)) if kind == CHAR else 0
         s.create(kind, encoding, width, pick((0, 1, 8, 16, 20, 24, MOST)))
         for _ in range(pick((3, 6, 10))):

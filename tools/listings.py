@@ -15,7 +15,7 @@ import random
 import sys
 
 import model
-from model import BLOB, CHAR, FIXED, Refused
+from model import BLOB, CHAR, F64, FIXED, KINDS, Refused, float_bits
 
 SEED = 1
 INTERVAL = 7
@@ -119,6 +119,7 @@ SAMPLES = {
     "nullable_i16": C,
     "run_length_i32": of_rows(2, 2, 0, [7, 7, 7, -1]),
     "run_length_nullable_interval": of_rows(INTERVAL, 3, 0, [(14 << 32) + 2**32 - 3] * 2 + [None] + [(-1 << 32) + 30]),
+    "run_length_f64": of_rows(F64, 2, 0, [float_bits(x) for x in (0.0375, 0.0375, 0.0, -0.0, 0.041, 0.041)]),
     "dictionary_blob": of_rows(BLOB, 4, 0, [b"ab", None, b"ab", b"c"]),
     "run_length_many_bools": descriptor(0, 2, 0, 1005) + bytes.fromhex("02000000 03000000 EC07 01 01 00"),
     "refused_unknown_key": of_rows(BLOB, 4, 0, [b"ab", None, b"ab", b"c"]).replace(
@@ -134,6 +135,7 @@ EDGES = {
     5: [0, 1234567890, -1, 2**63 - 1, -2**63],
     6: [0, 1000000000000000, -9, 2**63 - 1, -2**63],
     7: [(m << 32) + d % 2**32 for m in (0, 1, -1, 2**31 - 1, -2**31) for d in (0, 1, -1, 2**31 - 1, -2**31)],
+    F64: [*map(float_bits, (0.0, -0.0, 1.0, 0.0375, float("inf"), float("-inf"), 5e-324)), 0x7FF8000000000000, 0x7FF0000000000001, -1],
     CHAR: [b"", b"a", b"\xff\xfe", bytes(range(1, 17)), b"x\0y"],
     BLOB: [b"", b"\0", b"\x0f\xf0", bytes(range(256)), b"x\0y"],
 }
@@ -179,13 +181,15 @@ def limits(s):
     s.list(descriptor(0, 0, 0, 65529, zero=1) + bytes(65529), 3)  # 3 comes before the zero bit
     s.list(descriptor(1, 1, 0, 3, zero=1) + C[8:], 1)
     s.list(descriptor(15, 7, 255, 2**48 - 1, zero=1), 1)
-    s.list(descriptor(10, 0, 0, 0), 1)
+    for kind in (10, 12, 13, 14):
+        s.list(descriptor(kind, 0, 0, 0), 1)
     s.list(descriptor(15, 0, 0, 0), 1)
     for encoding in (5, 6, 7):
         s.list(descriptor(1, encoding, 0, 0), 1)
     for width in (1, 128, 255):
         s.list(descriptor(1, 0, width, 0), 1)
         s.list(descriptor(BLOB, 0, width, 0), 1)
+        s.list(descriptor(F64, 0, width, 0), 1)
     s.list(descriptor(CHAR, 0, 0, 0), 1)
     s.list(descriptor(0, 0, 0, 2**20 + 1), 3)
     s.list(descriptor(0, 0, 0, 2**47), 3)
@@ -281,7 +285,7 @@ def at_random(s, times):
     """Random rows, and random damage to their inputs."""
     r = s.random
     for _ in range(times):
-        kind, encoding = r.randrange(10), r.randrange(5)
+        kind, encoding = r.choice(KINDS), r.randrange(5)
         width = r.choice([5, 6, 30]) if kind == CHAR else 0
         rows = []
         for _ in range(r.randrange(9)):
@@ -301,7 +305,7 @@ def at_random(s, times):
 def changed_at_random(s, times):
     r = s.random
     for _ in range(times):
-        kind, encoding = r.randrange(10), r.choice([0, 1, 2, 2, 3, 3, 4, 4])
+        kind, encoding = r.choice(KINDS), r.choice([0, 1, 2, 2, 3, 3, 4, 4])
         width = r.choice([1, 5]) if kind == CHAR else 0
         rows = []
         for _ in range(r.randrange(1, 6)):

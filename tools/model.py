@@ -3,10 +3,12 @@
 It builds blocks, opens them and reads them row by row, for every kind and encoding. tools/answers.py makes the stored
 answers of the programs in the gate with it.
 """
+import struct
 
 FIXED = {0: (1, "little"), 1: (2, "little"), 2: (4, "little"), 3: (8, "little"),
-         4: (4, "big"), 5: (8, "big"), 6: (8, "big"), 7: (8, "big")}
-CHAR, BLOB = 8, 9
+         4: (4, "big"), 5: (8, "big"), 6: (8, "big"), 7: (8, "big"), 11: (8, "little")}
+CHAR, BLOB, F64 = 8, 9, 11  # a row of F64 is the integer of 64 bits that a float's bits are
+KINDS = sorted((*FIXED, CHAR, BLOB))
 NULL_KEY = -2**31
 MOST_RUN = 2**32 - 1
 
@@ -16,7 +18,12 @@ def known(kind, encoding, width):
         return False
     if kind == CHAR:
         return 1 <= width <= 255
-    return kind in (*FIXED, BLOB) and width == 0
+    return kind in KINDS and width == 0
+
+
+def float_bits(x):
+    """The row of F64 that a float is."""
+    return int.from_bytes(struct.pack("<d", x), "little", signed=True)
 
 
 # ---- building

@@ -68,6 +68,29 @@ static void dictionary(void) {
     expect(opening.number == IDZ_DONE && opening.reader.entries == 2, "and it opens");
 }
 
+/* f64, run-length, 1.0 1.0 -0.0 0.0: a double goes in and comes back by its bits, so the zeros are two runs. */
+static void floats(void) {
+    static const double rows[] = {1.0, 1.0, -0.0, 0.0};
+    static const uint8_t block[] = {3, 0, 0, 0, 3, 0, 0, 0, 2, 1, 1, /* three runs, of 2, 1 and 1 rows */
+                                    0, 0, 0, 0, 0, 0, 0xF0, 0x3F,    /* 1.0 */
+                                    0, 0, 0, 0, 0, 0, 0, 0x80,       /* -0.0 */
+                                    0, 0, 0, 0, 0, 0, 0, 0};         /* 0.0 */
+    idz_builder builder = idz_create(IDZ_F64, IDZ_RUN_LENGTH, 0, 100).builder;
+    for (int i = 0; i < 4; i++) {
+        int64_t bits;
+        memcpy(&bits, &rows[i], sizeof bits);
+        builder = append(builder, 1, bits, "", 64).builder;
+    }
+    idz_finished finished = finish(builder, 64);
+    expect(finished.number == IDZ_DONE && finished.len == sizeof block && memcmp(out, block, sizeof block) == 0, "three runs of doubles");
+    idz_reader reader = idz_open(IDZ_F64, IDZ_RUN_LENGTH, 0, 4, out, finished.len).reader;
+    int64_t values[4];
+    uint8_t given_flags[4];
+    idz_given given = idz_batch(reader, out, finished.len, 4, values, 4, given_flags, 4, NULL, 0, NULL, 0);
+    expect(given.number == IDZ_DONE && given.rows == 4 && memcmp(values, rows, sizeof rows) == 0, "and their bits come back");
+    expect(idz_create(IDZ_F64, IDZ_PLAIN, 8, 0).number == IDZ_COLUMN, "f64 of a width is 1");
+}
+
 static void refused(void) {
     idz_creation creation = idz_create(IDZ_CHAR, IDZ_PLAIN, 0, 0);
     expect(creation.number == IDZ_COLUMN, "char of 0 is 1");
@@ -91,6 +114,7 @@ int main(void) {
     expect(IDZ_VERSION == 2, "the header's version");
     run_length();
     dictionary();
+    floats();
     refused();
     printf("%d passed, %d failed\n", passed, failed);
     return failed > 0;

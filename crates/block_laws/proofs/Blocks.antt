@@ -1,4 +1,4 @@
--- Our blocks are sound and hold what was given, for all fifty pairs of a kind and an encoding. Assumes nothing.
+-- Our blocks are sound and hold what was given, for every pair of a kind and an encoding. Assumes nothing.
 use Prim.Native.Nat.{ℕ, _^_, _≤_, _<_}
 use native.Mathlib.Omega.{arith}
 use mathlib.Core.Bool.{true}

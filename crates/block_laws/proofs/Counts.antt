@@ -1,4 +1,4 @@
--- A block is sound for one number of rows at most, for all fifty pairs: a block's bytes tell how many rows it holds. Assumes nothing.
+-- A block is sound for one number of rows at most, for every pair: a block's bytes tell how many rows it holds. Assumes nothing.
 use Prim.Native.Nat.{ℕ, _+_, _-_, _*_, _≤_, _<_}
 use native.Mathlib.Nat.{le-antisymm}
 use native.Mathlib.Omega.{arith}
@@ -9,9 +9,10 @@ use mathlib.Core.Path.{_≡_, refl, sym, ap, _∙_}
 use lib.Dec.{ltb, leb, eqb}
 use lib.ListN.{length}
 use borrow.Author.Tests.{leb-true, eqb-false}
-use Rattle.encode.specs.Kinds.{widthOf, numbered, kindOf}
-use Rattle.encode.specs.declared.Primitive.{Primitive}
-use Rattle.encode.specs.declared.Primitive.the-variants.{Bool as Boolean, I16, I32, I64, Date, Timestamp, TimestampTz, Interval}
+use Rattle.encode.specs.Kinds.{shapeOf, widthOf, numbered, kindOf}
+use Rattle.encode.proofs.Shapes.{wideAs}
+use Rattle.encode.specs.declared.Shape.{Shape}
+use Rattle.encode.specs.declared.Shape.the-variants.{Bool as BoolShape, Low2, Low4, Low8, High4, High8}
 use Rattle.encode.specs.declared.Kind.{Kind}
 use Rattle.encode.specs.declared.Kind.the-variants.{Fixed, Char, Blob}
 use Rattle.encode.specs.declared.FoundKind.{FoundKind}
@@ -67,7 +68,8 @@ numbered-wide k =
     (either-kind (eqb k 5) _ _ tt
     (either-kind (eqb k 6) _ _ tt
     (either-kind (eqb k 7) _ _ tt
-    (either-kind (eqb k 9) _ _ tt tt))))))))
+    (either-kind (eqb k 9) _ _ tt
+    (either-kind (eqb k 11) _ _ tt tt)))))))))
 
 kind-wide : (k w : ℕ) → WideKind (kindOf k w)
 unfolding kindOf
@@ -101,15 +103,13 @@ product-below n m w p h = ⊎-elim
 same-product : (n m w : ℕ) → 0 < w → n * w ≡ m * w → n ≡ m
 same-product n m w p h = le-antisymm (product-below n m w p (omega arith)) (product-below m n w p (omega arith))
 
-width-some : (p : Primitive) → 0 < widthOf p
-width-some Boolean = omega arith
-width-some I16 = omega arith
-width-some I32 = omega arith
-width-some I64 = omega arith
-width-some Date = omega arith
-width-some Timestamp = omega arith
-width-some TimestampTz = omega arith
-width-some Interval = omega arith
+width-some : (s : Shape) → 0 < wideAs s
+width-some BoolShape = omega arith
+width-some Low2 = omega arith
+width-some Low4 = omega arith
+width-some Low8 = omega arith
+width-some High4 = omega arith
+width-some High8 = omega arith
 
 -- ends that rise: the last is not below the one before the first, and what holds of all holds of those behind some
 last-above : (before room : ℕ) (es : List ℕ) → rising before room es ≡ true → before ≤ lastOf before es
@@ -151,7 +151,7 @@ blob-below n m b h k l =
     omega (arith, blob-above n (m - n) b h (ap (λ (j : ℕ). plainNumber Blob j b) (sym e) ∙ k))
 
 plain-count : (k : Kind) → Wide k → (n m : ℕ) (b : List ℕ) → plainNumber k n b ≡ 0 → plainNumber k m b ≡ 0 → n ≡ m
-plain-count (Fixed p) w n m b h k = same-product n m (widthOf p) (width-some p) (sym (fixed-plain p n b h) ∙ fixed-plain p m b k)
+plain-count (Fixed p) w n m b h k = same-product n m (widthOf p) (width-some (shapeOf p)) (sym (fixed-plain p n b h) ∙ fixed-plain p m b k)
 plain-count (Char c) w n m b h k = same-product n m c w (sym (char-plain c n b h) ∙ char-plain c m b k)
 plain-count Blob w n m b h k = ⊎-elim
     (λ (l : n < m). blob-below n m b h k (omega arith))

@@ -10,9 +10,10 @@ use lib.ListN.{length, take, drop, getD, replicate, length-append, length-map, L
 use lib.Seq.{take-at, drop-append-add, ext-getD}
 use borrow.Author.Tests.{le-leb}
 use Rattle.encode.specs.Bytes.{little, low-first}
-use Rattle.encode.specs.Kinds.{widthOf, decoded, encoded}
+use Rattle.encode.specs.Kinds.{shapeOf, laidAs, widthOf, bytesAs, valueAs, decoded, encoded}
 use Rattle.encode.specs.declared.Primitive.{Primitive}
-use Rattle.encode.specs.declared.Primitive.the-variants.{Bool as Boolean, I16, I32, I64, Date, Timestamp, TimestampTz, Interval}
+use Rattle.encode.specs.declared.Shape.{Shape}
+use Rattle.encode.specs.declared.Shape.the-variants.{Bool as BoolShape, Low2, Low4, Low8, High4, High8}
 use Rattle.encode.specs.declared.Kind.{Kind}
 use Rattle.encode.specs.declared.Kind.the-variants.{Fixed, Char, Blob}
 use Rattle.encode.proofs.RoundTrip.{number-bytes, round-trip}
@@ -36,20 +37,18 @@ abbrev pub kept : Kind → Row → Row
 kept k r = cut k (filled k r)
 
 -- ---- fixed kinds
-default-trip : (p : Primitive) → decoded p (encoded p (intIn null)) ≡ intIn null
+default-trip : (s : Shape) → valueAs (laidAs s) (bytesAs (laidAs s) (intIn null)) ≡ intIn null
 unfolding intIn
-default-trip Boolean = refl
-default-trip I16 = refl
-default-trip I32 = refl
-default-trip I64 = refl
-default-trip Date = refl
-default-trip Timestamp = refl
-default-trip TimestampTz = refl
-default-trip Interval = refl
+default-trip BoolShape = refl
+default-trip Low2 = refl
+default-trip Low4 = refl
+default-trip Low8 = refl
+default-trip High4 = refl
+default-trip High8 = refl
 
 fixed-trip : (p : Primitive) (r : Row) → Fits (Fixed p) r → decoded p (encoded p (intIn r)) ≡ intIn r
 unfolding fits intIn
-fixed-trip p null h = default-trip p
+fixed-trip p null h = default-trip (shapeOf p)
 fixed-trip p (int v) h = round-trip p v h
 fixed-trip p (bytes bs) h = let z : _≡_ {A = ℕ} 0 1 = cc in absurd (omega arith)
 

@@ -1,4 +1,4 @@
--- Two lists of rows that give the same block have the same stored form, whatever their lengths, for all fifty pairs. Assumes nothing.
+-- Two lists of rows that give the same block have the same stored form, whatever their lengths, for every pair. Assumes nothing.
 use Prim.Native.Nat.{ℕ}
 use mathlib.Core.Bool.{true}
 use mathlib.Core.List.{List, [], _∷_}
@@ -17,7 +17,7 @@ use Rattle.format.specs.Sizes.{storedItems, storedEntries, withinLimits, allFit
 use Rattle.block_laws.proofs.Blocks.{our-blocks-open, our-blocks-hold}
 use Rattle.block_laws.proofs.Counts.{one-row-count}
 
--- A char of width 0 is none of the fifty pairs: one empty row and no rows would be the same block.
+-- A char of width 0 is none of the pairs: one empty row and no rows would be the same block.
 pub width-0-tells-nothing :
     (accepted (Char 0) Plain (bytes [] ∷ []) ≡ true)
     × (accepted (Char 0) Plain [] ≡ true)

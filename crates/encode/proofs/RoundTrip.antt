@@ -21,7 +21,7 @@ use mir.Facts.{toZ-ofZ, fits-ofZ}
 use Rattle.encode.specs.Bytes.{Order, low-first, high-first, little, big, bytesOf, number, numberOf, inEight}
 use Rattle.encode.specs.Kinds.{Reading, truth, signed, shapeOf, laidAs, layoutOf, widthOf, trueOrFalse, numberAs, zeroOrOne, takesAs, encoded, decoded, takes}
 use Rattle.encode.specs.declared.Primitive.{Primitive}
-use Rattle.encode.specs.declared.Primitive.the-variants.{Interval}
+use Rattle.encode.specs.declared.Primitive.the-variants.{Interval, F64}
 use Rattle.encode.specs.declared.Shape.{Shape}
 use Rattle.encode.specs.declared.Shape.the-variants.{Bool as BoolShape, Low2, Low4, Low8, High4, High8}
 
@@ -128,6 +128,12 @@ item-whole p v = take-at (encoded p v) (replicate (8 - length (encoded p v)) 0) 
 
 pub round-trip-whole : (p : Primitive) (v : ℤ) → takes p v ≡ true → decoded p (take (widthOf p) (inEight (encoded p v))) ≡ v
 round-trip-whole p v t = ap (decoded p) (item-whole p v) ∙ round-trip p v t
+
+-- ---- an f64
+
+-- each number of 64 bits is the bits of one
+pub f64-bits : (v : ℤ) → SFits w64 v → takes F64 v ≡ true
+f64-bits v f = lt-ltb (mag v) (2 ^ hbits w64) (f .sfits)
 
 -- ---- an interval
 

@@ -11,7 +11,7 @@ use mir.Val.{ofZ, toZ, bytes, hbits}
 use Rattle.limits.specs.Limits.{MOST_WIDTH}
 use Rattle.encode.specs.Bytes.{Order, low-first, high-first, bytesOf, numberOf}
 use Rattle.encode.specs.declared.Primitive.{Primitive}
-use Rattle.encode.specs.declared.Primitive.the-variants.{Bool as Boolean, I16, I32, I64, Date, Timestamp, TimestampTz, Interval}
+use Rattle.encode.specs.declared.Primitive.the-variants.{Bool as Boolean, I16, I32, I64, Date, Timestamp, TimestampTz, Interval, F64}
 use Rattle.encode.specs.declared.Shape.{Shape}
 use Rattle.encode.specs.declared.Shape.the-variants.{Bool as BoolShape, Low2, Low4, Low8, High4, High8}
 use Rattle.encode.specs.declared.Kind.{Kind}
@@ -48,6 +48,7 @@ shapeOf Date = High4
 shapeOf Timestamp = High8
 shapeOf TimestampTz = High8
 shapeOf Interval = High8
+shapeOf F64 = Low8
 
 abbrev pub layoutOf : Primitive → Layout
 layoutOf p = laidAs (shapeOf p)
@@ -104,7 +105,8 @@ numbered k =
     (cond (eqb k 5) (Known (Fixed Timestamp))
     (cond (eqb k 6) (Known (Fixed TimestampTz))
     (cond (eqb k 7) (Known (Fixed Interval))
-    (cond (eqb k 9) (Known Blob) Unknown))))))))
+    (cond (eqb k 9) (Known Blob)
+    (cond (eqb k 11) (Known (Fixed F64)) Unknown)))))))))
 
 unfoldable pub kindOf : ℕ → ℕ → FoundKind
 kindOf k w =

@@ -233,3 +233,31 @@ impl IntervalKind {
         mag_of(v) < 0x8000_0000_0000_0000
     }
 }
+
+// The bits of an f64, little-endian: each i64 is those of one, and rows are equal exactly when their bits are.
+pub struct F64Kind {}
+
+impl F64Kind {
+    pub const WIDTH: usize = 8;
+
+    // +0.0
+    pub const DEFAULT_VALUE: i64 = 0;
+
+    pub fn encode(v: i64) -> [u8; 8]
+        ensures { λ r. ⌜ Encodes Primitive.F64 v r ⌝ }
+    {
+        low_first(bits_of(v))
+    }
+
+    pub fn decode(item: [u8; 8]) -> i64
+        ensures { λ r. ⌜ Decodes Primitive.F64 item r ⌝ }
+    {
+        of_bits(low8(item))
+    }
+
+    pub fn takes(v: i64) -> bool
+        ensures { λ r. ⌜ Takes Primitive.F64 v r ⌝ }
+    {
+        mag_of(v) < 0x8000_0000_0000_0000
+    }
+}

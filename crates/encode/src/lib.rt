@@ -4,6 +4,7 @@ mod fixed;
 
 pub use fixed::BoolKind;
 pub use fixed::DateKind;
+pub use fixed::F64Kind;
 pub use fixed::I16Kind;
 pub use fixed::I32Kind;
 pub use fixed::I64Kind;
@@ -19,7 +20,7 @@ ghost use lib.ListN.{take};
 ghost use Rattle.encode.specs.Bytes.{low-first, high-first, little, big, inEight, numberOf};
 ghost use Rattle.encode.specs.Promises.{Encodes, Decodes, Takes, Shaped, Wide, Default, Names};
 
-// The kinds of fixed width: bool, i16, i32, i64, Date, Timestamp, TimestampTz and Interval.
+// The kinds of fixed width: bool, i16, i32, i64, Date, Timestamp, TimestampTz, Interval and f64.
 pub enum Primitive {
     Bool,
     I16,
@@ -29,6 +30,7 @@ pub enum Primitive {
     Timestamp,
     TimestampTz,
     Interval,
+    F64,
 }
 
 // How the items of a fixed kind are laid out, which kinds may share: a bool's byte; two, four or eight bytes, lowest first; four or
@@ -253,6 +255,7 @@ impl Primitive {
             Primitive::Timestamp => Shape::High8,
             Primitive::TimestampTz => Shape::High8,
             Primitive::Interval => Shape::High8,
+            Primitive::F64 => Shape::Low8,
         }
     }
 
@@ -268,6 +271,7 @@ impl Primitive {
             Primitive::Timestamp => TimestampKind::WIDTH,
             Primitive::TimestampTz => TimestampTzKind::WIDTH,
             Primitive::Interval => IntervalKind::WIDTH,
+            Primitive::F64 => F64Kind::WIDTH,
         }
     }
 
@@ -284,6 +288,7 @@ impl Primitive {
             Primitive::Timestamp => TimestampKind::DEFAULT_VALUE,
             Primitive::TimestampTz => TimestampTzKind::DEFAULT_VALUE,
             Primitive::Interval => IntervalKind::DEFAULT_VALUE,
+            Primitive::F64 => F64Kind::DEFAULT_VALUE,
         }
     }
 
@@ -299,6 +304,7 @@ impl Primitive {
             Primitive::Timestamp => TimestampKind::encode(v),
             Primitive::TimestampTz => TimestampTzKind::encode(v),
             Primitive::Interval => IntervalKind::encode(v),
+            Primitive::F64 => F64Kind::encode(v),
         }
     }
 
@@ -314,6 +320,7 @@ impl Primitive {
             Primitive::Timestamp => TimestampKind::decode(item),
             Primitive::TimestampTz => TimestampTzKind::decode(item),
             Primitive::Interval => IntervalKind::decode(item),
+            Primitive::F64 => F64Kind::decode(item),
         }
     }
 
@@ -329,6 +336,7 @@ impl Primitive {
             Primitive::Timestamp => TimestampKind::takes(v),
             Primitive::TimestampTz => TimestampTzKind::takes(v),
             Primitive::Interval => IntervalKind::takes(v),
+            Primitive::F64 => F64Kind::takes(v),
         }
     }
 }
@@ -359,6 +367,7 @@ pub fn kind_of(kind: usize, width: usize) -> FoundKind
         6 => FoundKind::Known(Kind::Fixed(Primitive::TimestampTz)),
         7 => FoundKind::Known(Kind::Fixed(Primitive::Interval)),
         9 => FoundKind::Known(Kind::Blob),
+        11 => FoundKind::Known(Kind::Fixed(Primitive::F64)),
         _ => FoundKind::Unknown,
     }
 }

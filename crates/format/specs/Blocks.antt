@@ -1,4 +1,4 @@
--- 01, "Kinds and encodings", "Layouts" and "Stored form", for all fifty pairs of a kind and an encoding. Assumes nothing.
+-- 01, "Kinds and encodings", "Layouts" and "Stored form", for every pair of a kind and an encoding. Assumes nothing.
 use Prim.Native.Nat.{ℕ}
 use mathlib.Core.Bool.{cond}
 use mathlib.Core.List.{List, map}

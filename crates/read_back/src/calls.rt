@@ -87,7 +87,7 @@ fn give(
 ) -> Reader {
     let answer = reader.batch(block, size, values, flags, ends, bytes);
     refused(answer.number);
-    show_rows(reader.kind, answer.rows, values, flags, ends, bytes);
+    show_rows(reader, answer.rows, values, flags, ends, bytes);
     answer.reader
 }
 

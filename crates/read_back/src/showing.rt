@@ -1,5 +1,6 @@
 // Rows as they were read.
 use crate::Named;
+use block::Reader;
 use script::byte;
 use script::first;
 use script::rest;
@@ -61,11 +62,32 @@ fn show_texts(n: usize, flags: &[u8], ends: &[u32], bytes: &[u8]) {
     }
 }
 
-// Kinds 8 and 9 have bytes.
-pub fn show_rows(kind: usize, n: usize, values: &[i64], flags: &[u8], ends: &[u32], bytes: &[u8]) {
+fn is_fixed(kind: encode::Kind) -> bool {
+    match kind {
+        encode::Kind::Fixed(_) => true,
+        _ => false,
+    }
+}
+
+// Rows of a fixed kind are integers, those of the others bytes.
+fn are_ints(found: encode::FoundKind) -> bool {
+    match found {
+        encode::FoundKind::Known(kind) => is_fixed(kind),
+        encode::FoundKind::Unknown => false,
+    }
+}
+
+pub fn show_rows(
+    reader: Reader,
+    n: usize,
+    values: &[i64],
+    flags: &[u8],
+    ends: &[u32],
+    bytes: &[u8],
+) {
     show_size(n);
     say(b":");
-    if kind < 8 {
+    if are_ints(encode::kind_of(reader.kind, reader.width)) {
         show_ints(n, values, flags);
     } else {
         show_texts(n, flags, ends, bytes);

@@ -1,4 +1,4 @@
--- Accepted rows, built to a block and read by any calls, come back in their stored form, for all fifty pairs. Assumes nothing.
+-- Accepted rows, built to a block and read by any calls, come back in their stored form, for every pair. Assumes nothing.
 use Prim.Native.Nat.{ℕ}
 use mathlib.Core.Bool.{true}
 use mathlib.Core.List.{List}

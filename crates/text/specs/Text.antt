@@ -9,7 +9,7 @@ use mir.Syntax.{w32, w64}
 use mir.Val.{ofZ, toZ}
 use Rattle.area.specs.Area.{over}
 use Rattle.encode.specs.declared.Primitive.{Primitive}
-use Rattle.encode.specs.declared.Primitive.the-variants.{Bool as Boolean, I16, I32, I64, Date, Timestamp, TimestampTz, Interval}
+use Rattle.encode.specs.declared.Primitive.the-variants.{Bool as Boolean, I16, I32, I64, Date, Timestamp, TimestampTz, Interval, F64}
 use Rattle.encode.specs.declared.Kind.{Kind}
 use Rattle.encode.specs.declared.Kind.the-variants.{Fixed, Char, Blob}
 use Rattle.plain.specs.Rows.{Row, null, int, bytes}
@@ -44,6 +44,7 @@ isInterval Date = false
 isInterval Timestamp = false
 isInterval TimestampTz = false
 isInterval Interval = true
+isInterval F64 = false
 
 unfoldable pub valueText : Primitive → ℤ → List ℕ
 valueText p v = cond (isInterval p) (intervalText (ofZ w64 v)) (numberText v)

@@ -162,6 +162,7 @@ fn name(p: encode::Primitive) {
         encode::Primitive::Timestamp => say(b"timestamp"),
         encode::Primitive::TimestampTz => say(b"timestamptz"),
         encode::Primitive::Interval => say(b"interval"),
+        encode::Primitive::F64 => say(b"f64"),
     }
 }
 
@@ -217,6 +218,10 @@ fn kinds() {
     kind(9, 0);
     kind(9, 1);
     kind(10, 0);
+    kind(11, 0);
+    kind(11, 1);
+    kind(11, 8);
+    kind(12, 0);
 }
 
 // What an item reads as.
@@ -287,6 +292,16 @@ fn intervals() {
     value(encode::Primitive::Interval, -4294967296);
 }
 
+// By their bits: 0.0 and 1.0, the infinities, a quiet NaN and a signalling one. The least integer, above, is -0.0.
+fn rates() {
+    value(encode::Primitive::F64, 0);
+    value(encode::Primitive::F64, 0x3ff0_0000_0000_0000);
+    value(encode::Primitive::F64, 0x7ff0_0000_0000_0000);
+    value(encode::Primitive::F64, -4503599627370496);
+    value(encode::Primitive::F64, 0x7ff8_0000_0000_0000);
+    value(encode::Primitive::F64, 0x7ff0_0000_0000_0001);
+}
+
 fn values() {
     bools();
     of_16_bits();
@@ -297,6 +312,8 @@ fn values() {
     of_64_bits(encode::Primitive::TimestampTz);
     of_64_bits(encode::Primitive::Interval);
     intervals();
+    of_64_bits(encode::Primitive::F64);
+    rates();
 }
 
 fn main() {

@@ -1,5 +1,8 @@
 //! Memory for a batch of rows.
 use std::collections::TryReserveError;
+use std::hash::{Hash, Hasher};
+
+use crate::Kind;
 
 /// Memory that a batch of rows is read into, to be used again and again.
 ///
@@ -24,29 +27,102 @@ pub struct Batch {
     pub(crate) ends: Vec<u32>,
     pub(crate) bytes: Vec<u8>,
     pub(crate) rows: usize,
-    pub(crate) is_bytes: bool,
+    pub(crate) kind: Kind,
 }
 
-/// A row of a batch.
-#[derive(Clone, Copy, Debug, PartialEq, Eq, Hash)]
+/// A row of a batch. Rows are equal as in a block: floats exactly when their bits are.
+///
+/// ```
+/// use idzulgar::Row;
+///
+/// assert_ne!(Row::F64(0.0), Row::F64(-0.0));
+/// assert_eq!(Row::F64(f64::NAN), Row::F64(f64::NAN));
+/// ```
+#[derive(Clone, Copy, Debug)]
 pub enum Row<'a> {
     /// No value.
     Null,
-    /// A row of a fixed kind.
+    /// A row of a fixed kind but [`Kind::F64`]; of that, a builder also takes the bits so.
     Int(i64),
     /// A row of char or blob.
     Bytes(&'a [u8]),
+    /// A row of [`Kind::F64`].
+    F64(f64),
 }
 
-/// A row that owns its bytes.
-#[derive(Clone, Debug, PartialEq, Eq, Hash)]
+impl Row<'_> {
+    /// The float of a row of [`Kind::F64`]; nothing for a null and for a row of any other kind.
+    ///
+    /// ```
+    /// use idzulgar::Row;
+    ///
+    /// assert_eq!(Row::F64(0.0375).f64(), Some(0.0375));
+    /// assert_eq!((Row::Null.f64(), Row::Int(4607182418800017408).f64()), (None, None));
+    /// ```
+    pub fn f64(self) -> Option<f64> {
+        match self {
+            Row::F64(value) => Some(value),
+            _ => None,
+        }
+    }
+
+    /// The row's sort, and its integer, bits or bytes: what tells it from others.
+    fn told(&self) -> (u8, u64, &[u8]) {
+        match self {
+            Row::Null => (0, 0, &[]),
+            Row::Int(value) => (1, *value as u64, &[]),
+            Row::Bytes(bytes) => (2, 0, bytes),
+            Row::F64(value) => (3, value.to_bits(), &[]),
+        }
+    }
+}
+
+impl PartialEq for Row<'_> {
+    fn eq(&self, other: &Self) -> bool {
+        self.told() == other.told()
+    }
+}
+
+impl Eq for Row<'_> {}
+
+impl Hash for Row<'_> {
+    fn hash<H: Hasher>(&self, state: &mut H) {
+        self.told().hash(state);
+    }
+}
+
+/// A row that owns its bytes, equal to others as a [`Row`] is.
+#[derive(Clone, Debug)]
 pub enum Value {
     /// No value.
     Null,
-    /// A row of a fixed kind.
+    /// A row of a fixed kind but [`Kind::F64`]; of that, a builder also takes the bits so.
     Int(i64),
     /// A row of char or blob.
     Bytes(Vec<u8>),
+    /// A row of [`Kind::F64`].
+    F64(f64),
+}
+
+impl Value {
+    /// The float of a row of [`Kind::F64`]; nothing for a null and for a row of any other kind.
+    pub fn f64(&self) -> Option<f64> {
+        Row::from(self).f64()
+    }
+}
+
+impl PartialEq for Value {
+    fn eq(&self, other: &Self) -> bool {
+        Row::from(self) == Row::from(other)
+    }
+}
+
+impl Eq for Value {}
+
+impl Hash for Value {
+    fn hash<H: Hasher>(&self, state: &mut H) {
+        Row::from(self).hash(state);
+    }
 }
 
 impl From<Row<'_>> for Value {
@@ -55,6 +131,18 @@ impl From<Row<'_>> for Value {
             Row::Null => Value::Null,
             Row::Int(value) => Value::Int(value),
             Row::Bytes(bytes) => Value::Bytes(bytes.to_vec()),
+            Row::F64(value) => Value::F64(value),
+        }
+    }
+}
+
+impl<'a> From<&'a Value> for Row<'a> {
+    fn from(value: &'a Value) -> Row<'a> {
+        match value {
+            Value::Null => Row::Null,
+            Value::Int(value) => Row::Int(*value),
+            Value::Bytes(bytes) => Row::Bytes(bytes),
+            Value::F64(value) => Row::F64(*value),
         }
     }
 }
@@ -69,7 +157,7 @@ fn zeros<T: Clone + Default>(count: usize) -> Result<Vec<T>, TryReserveError> {
 impl Batch {
     /// Memory for at most `rows` rows of a kind and, for char and blob, `bytes` bytes of them. It is set aside at once and never
     /// grows.
-    pub fn new(kind: crate::Kind, rows: usize, bytes: usize) -> Result<Self, TryReserveError> {
+    pub fn new(kind: Kind, rows: usize, bytes: usize) -> Result<Self, TryReserveError> {
         let is_bytes = kind.is_bytes();
         let (fixed, variable) = if is_bytes { (0, rows) } else { (rows, 0) };
         Ok(Batch {
@@ -78,7 +166,7 @@ impl Batch {
             ends: zeros(variable)?,
             bytes: zeros(if is_bytes { bytes } else { 0 })?,
             rows: 0,
-            is_bytes,
+            kind,
         })
     }
 
@@ -105,8 +193,9 @@ impl Batch {
         if *self.flags.get(place)? == 0 {
             return Some(Row::Null);
         }
-        if !self.is_bytes {
-            return Some(Row::Int(*self.values.get(place)?));
+        if !self.kind.is_bytes() {
+            let value = *self.values.get(place)?;
+            return Some(if self.kind == Kind::F64 { Row::F64(f64::from_bits(value as u64)) } else { Row::Int(value) });
         }
         let from = match place {
             0 => 0,
@@ -121,7 +210,7 @@ impl Batch {
         (0..self.rows).map_while(|place| self.get(place))
     }
 
-    /// One integer a row of a fixed kind, 0 for a null.
+    /// One integer a row of a fixed kind, 0 for a null; that of a float is its bits.
     pub fn values(&self) -> &[i64] {
         self.values.get(..self.rows).unwrap_or(&[])
     }

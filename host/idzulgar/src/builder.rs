@@ -28,12 +28,14 @@ pub struct Builder {
     lens: Vec<u8>,
 }
 
-/// A row as the calls take it: whether it is present, its integer, its bytes. A row of the wrong sort is refused.
+/// A row as the calls take it: whether it is present, its integer, its bytes. A row of the wrong sort is refused; a float's row may also
+/// be the integer that its bits are.
 fn parts<'a>(kind: Kind, row: Row<'a>) -> Result<(bool, i64, &'a [u8]), Refusal> {
     match row {
         Row::Null => Ok((false, 0, &[])),
         Row::Int(value) if !kind.is_bytes() => Ok((true, value, &[])),
         Row::Bytes(bytes) if kind.is_bytes() => Ok((true, 0, bytes)),
+        Row::F64(value) if kind == Kind::F64 => Ok((true, value.to_bits() as i64, &[])),
         _ => Err(Refusal::Item),
     }
 }

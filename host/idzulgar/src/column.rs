@@ -1,4 +1,4 @@
-//! Kinds, encodings, and the fifty pairs of them.
+//! Kinds, encodings, and their pairs.
 use crate::Refusal;
 
 /// What a column's rows are.
@@ -25,6 +25,8 @@ pub enum Kind {
     Char(u8),
     /// Bytes.
     Blob,
+    /// A float of 64 bits, kept and compared by its bits: 0.0 and -0.0 are two rows, and a NaN equals exactly those of the same bits.
+    F64,
 }
 
 impl Kind {
@@ -81,6 +83,8 @@ impl Column {
     /// assert_eq!(Column::numbered(8, 4, 16), Ok(Column::new(Kind::Char(16), Encoding::Dictionary)));
     /// assert_eq!(Column::numbered(8, 4, 256), Err(Refusal::Column));
     /// assert_eq!(Column::numbered(3, 0, 8), Err(Refusal::Column));
+    /// assert_eq!(Column::numbered(11, 0, 0), Ok(Column::new(Kind::F64, Encoding::Plain)));
+    /// assert_eq!(Column::numbered(10, 0, 0), Err(Refusal::Column));
     /// ```
     pub fn numbered(kind: u64, encoding: u64, width: u64) -> Result<Self, Refusal> {
         let kind = match (kind, width) {
@@ -94,6 +98,7 @@ impl Column {
             (7, 0) => Kind::Interval,
             (8, 1..=255) => Kind::Char(width as u8),
             (9, 0) => Kind::Blob,
+            (11, 0) => Kind::F64,
             _ => return Err(Refusal::Column),
         };
         let encoding = match encoding {
@@ -120,6 +125,7 @@ impl Column {
             Kind::Interval => (7, 0),
             Kind::Char(width) => (8, usize::from(width)),
             Kind::Blob => (9, 0),
+            Kind::F64 => (11, 0),
         };
         (kind, self.encoding as usize, width)
     }

@@ -1,4 +1,4 @@
-//! Column blocks of risinglight (plain, nullable, run-length, dictionary; ten kinds), built and read by proved code.
+//! Column blocks of risinglight (plain, nullable, run-length, dictionary), built and read by proved code.
 //!
 //! The work is done by a static library whose every answer is proved: a row, or a refusal with its number. This crate adds what a
 //! Rust service expects around it: a [`Builder`] that keeps its memory, a [`Reader`] that keeps its block, a [`Refusal`] that says
@@ -19,6 +19,30 @@
 //!
 //! // one byte is missing
 //! assert_eq!(Reader::open(column, 4, &block[..17]).unwrap_err(), Refusal::Length);
+//! # Ok::<(), Refusal>(())
+//! ```
+//!
+//! A rate table: rates are rows of [`Kind::F64`], given and read as `f64`, kept and compared by their bits.
+//!
+//! ```
+//! use idzulgar::{Builder, Column, Encoding, Kind, Reader, Refusal, Row};
+//!
+//! let column = Column::new(Kind::F64, Encoding::Dictionary);
+//! let months = [Some(0.0375), Some(0.0375), None, Some(0.041), Some(0.0)];
+//! let mut builder = Builder::new(column, 4096)?;
+//! for rate in months {
+//!     builder.append(rate.map_or(Row::Null, Row::F64))?;
+//! }
+//! let block = builder.finish()?;
+//!
+//! let reader = Reader::open(column, builder.rows(), block)?;
+//! let rates: Result<Vec<Option<f64>>, Refusal> = reader.rows().map(|row| row.map(|value| value.f64())).collect();
+//! assert_eq!(rates?, months);
+//!
+//! // only a column of floats takes and gives them
+//! let mut amounts = Builder::new(Column::new(Kind::I64, Encoding::Plain), 4096)?;
+//! assert_eq!(amounts.append(Row::F64(0.0375)), Err(Refusal::Item));
+//! assert_eq!(Row::Int(375).f64(), None);
 //! # Ok::<(), Refusal>(())
 //! ```
 //!

@@ -76,7 +76,7 @@ impl<B: AsRef<[u8]>> Reader<B> {
         Refusal::check(answer.number)?;
         self.record = answer.reader;
         batch.rows = answer.rows;
-        batch.is_bytes = self.kind.is_bytes();
+        batch.kind = self.kind;
         Ok(answer.rows)
     }
 

@@ -6,7 +6,7 @@ use std::fmt::{Display, Formatter};
 #[derive(Clone, Copy, Debug, PartialEq, Eq, Hash)]
 #[non_exhaustive]
 pub enum Refusal {
-    /// 1: kind, encoding or width is not one of the fifty pairs.
+    /// 1: kind, encoding or width is not one of the pairs.
     Column,
     /// 2: an appended item doesn't fit its kind.
     Item,
@@ -40,7 +40,7 @@ pub enum Refusal {
 
 /// Each refusal with its number and what it means.
 const TABLE: [(u8, Refusal, &str); 14] = [
-    (1, Refusal::Column, "kind, encoding or width is not one of the fifty pairs"),
+    (1, Refusal::Column, "kind, encoding or width is not one of the pairs"),
     (2, Refusal::Item, "the item doesn't fit its kind"),
     (
         3,

@@ -2,29 +2,21 @@
 mod model;
 
 use idzulgar::calls::{self, Areas, BuilderRecord};
-use idzulgar::{Builder, Column, Encoding, Kind, Reader, Refusal, Row, Value};
+use idzulgar::{Batch, Builder, Column, Encoding, Kind, Reader, Refusal, Row, Value};
 use model::Chance;
-
-fn row(value: &Value) -> Row<'_> {
-    match value {
-        Value::Null => Row::Null,
-        Value::Int(value) => Row::Int(*value),
-        Value::Bytes(bytes) => Row::Bytes(bytes),
-    }
-}
 
 #[test]
 fn blocks_estimates_and_should_finish_are_those_of_document_01() {
     let mut chance = Chance::new(11);
-    for round in 0..10_000 {
-        let column = model::column(round % 50, 1 + chance.below(20));
+    for round in 0..11_000 {
+        let column = model::column(round % model::PAIRS, 1 + chance.below(20));
         let rows = model::some_rows(column.kind, 60, &mut chance);
         let target = chance.below(300);
         let mut builder = Builder::new(column, target).unwrap();
         for (place, value) in rows.iter().enumerate() {
             let full = model::should_finish(column, target as usize, &rows[..place], value);
-            assert_eq!(builder.should_finish(row(value)), Ok(full), "{column:?} {rows:?} at {place}, target {target}");
-            builder.append(row(value)).unwrap();
+            assert_eq!(builder.should_finish(value.into()), Ok(full), "{column:?} {rows:?} at {place}, target {target}");
+            builder.append(value.into()).unwrap();
         }
         assert_eq!(builder.rows(), rows.len() as u64);
         assert_eq!(builder.estimate(), Ok(model::estimate(column, &rows) as u64));
@@ -47,6 +39,9 @@ fn a_refused_row_changes_nothing() {
         (Kind::Char(2), Row::Bytes(b"abc")),
         (Kind::Char(2), Row::Int(0)),
         (Kind::I64, Row::Bytes(b"a")),
+        (Kind::I64, Row::F64(1.0)),
+        (Kind::Blob, Row::F64(1.0)),
+        (Kind::F64, Row::Bytes(b"a")),
     ];
     for (kind, wrong) in cases {
         for encoding in 0..5 {
@@ -63,6 +58,46 @@ fn a_refused_row_changes_nothing() {
         }
     }
     assert_eq!(Builder::new(Column::new(Kind::Char(0), Encoding::Plain), 0).unwrap_err(), Refusal::Column);
+}
+
+/// Floats that compare as equal and are none here, or that no comparison finds equal.
+const RATES: [u64; 8] = [
+    0x0000_0000_0000_0000, // 0.0
+    0x8000_0000_0000_0000, // -0.0
+    0x7FF8_0000_0000_0000, // a NaN, another, a negative one, a signalling one
+    0x7FF8_0000_0000_0001,
+    0xFFF8_0000_0000_0000,
+    0x7FF0_0000_0000_0001,
+    0x7FF0_0000_0000_0000, // infinity
+    0x3FA3_3333_3333_3333, // 0.0375
+];
+
+#[test]
+fn floats_are_kept_and_compared_by_their_bits() {
+    for encoding in 0..5 {
+        let column = Column::numbered(11, encoding, 0).unwrap();
+        let mut builder = Builder::new(column, 0).unwrap();
+        for bits in RATES {
+            builder.append(Row::F64(f64::from_bits(bits))).unwrap();
+            builder.append(Row::Int(bits as i64)).unwrap();
+            builder.append(Row::Null).unwrap();
+        }
+        let block = builder.finish().unwrap();
+        let runs = if encoding == 4 { &block[12..] } else { &block };
+        assert!(encoding < 2 || runs[..4] == [16, 0, 0, 0], "{encoding}");
+        assert!(encoding < 4 || block[8..12] == [0, 0, 0, 8], "{encoding}");
+
+        let mut reader = Reader::open(column, 24, block).unwrap();
+        let mut batch = Batch::new(Kind::F64, 24, 0).unwrap();
+        assert_eq!(reader.batch(24, &mut batch), Ok(24));
+        let null = if matches!(encoding, 0 | 2) { Row::F64(0.0) } else { Row::Null };
+        for (place, bits) in RATES.into_iter().enumerate() {
+            let given = [batch.get(3 * place), batch.get(3 * place + 1)].map(|row| row.and_then(Row::f64).map(f64::to_bits));
+            assert_eq!(given, [Some(bits); 2]);
+            assert_eq!(batch.get(3 * place + 2), Some(null));
+            assert_eq!(batch.values()[3 * place..][..3], [bits as i64, bits as i64, 0]);
+        }
+    }
 }
 
 #[test]
@@ -104,7 +139,7 @@ fn forged_records_and_changed_areas_get_an_answer_and_a_refusal_writes_nothing()
     let mut chance = Chance::new(12);
     let mut seen = [0u32; 10];
     for round in 0..200_000 {
-        let column = model::column(round % 50, 1 + chance.below(5));
+        let column = model::column(round % model::PAIRS, 1 + chance.below(5));
         let (kind, encoding, width) = column.numbers();
         let mut small = || if chance.one_in(5) { (chance.number() >> chance.below(64)) as usize } else { chance.below(6) as usize };
         let mut record = BuilderRecord {
@@ -123,7 +158,7 @@ fn forged_records_and_changed_areas_get_an_answer_and_a_refusal_writes_nothing()
         if chance.one_in(2) {
             // bytes that go with the items
             let stored = [record.rows, record.rows, record.runs, record.runs, record.entries][encoding];
-            record.bytes = stored.wrapping_mul([1, 2, 4, 8, 4, 8, 8, 8, width, 1][kind]);
+            record.bytes = stored.wrapping_mul([1, 2, 4, 8, 4, 8, 8, 8, width, 1, 0, 8][kind]);
         }
         let (mut items, mut flags, mut lens) = (vec![3u8; 40], vec![5u8; 4], vec![1u8; 8]);
         let (mut ends, mut counts, mut keys) = (vec![2u32, 3, 4, 4, 9, 10], vec![2u32; 8], vec![-2147483647i32; 8]);

@@ -82,6 +82,7 @@ fn parts(value: &Value) -> (bool, i64, &[u8]) {
         Value::Null => (false, 0, &[]),
         Value::Int(value) => (true, *value, &[]),
         Value::Bytes(bytes) => (true, 0, bytes),
+        Value::F64(value) => (true, value.to_bits() as i64, &[]),
     }
 }
 
@@ -131,8 +132,8 @@ fn ask(
 fn calls_on_memory_that_starts_empty_and_is_another_at_each_call() {
     let mut chance = Chance::new(13);
     let (mut at_once, mut second, mut refused) = (0u32, 0u32, 0u32);
-    for round in 0..5_000 {
-        let column = model::column(round % 50, 1 + chance.below(20));
+    for round in 0..5_500 {
+        let column = model::column(round % model::PAIRS, 1 + chance.below(20));
         let (kind, encoding, width) = column.numbers();
         let rows = model::some_rows(column.kind, 40, &mut chance);
         let target = chance.below(300) as usize;

@@ -5,8 +5,6 @@ use idzulgar::calls::{self, ReaderRecord};
 use idzulgar::{Batch, Column, Encoding, Kind, Reader, Refusal, Row, Value};
 use model::Chance;
 
-const KINDS: u64 = 50;
-
 fn read_all(column: Column, n: u64, block: &[u8]) -> Result<Vec<Value>, Refusal> {
     Reader::open(column, n, block)?.rows().collect()
 }
@@ -15,7 +13,7 @@ fn read_all(column: Column, n: u64, block: &[u8]) -> Result<Vec<Value>, Refusal>
 fn rows_come_back_in_their_stored_form() {
     let mut chance = Chance::new(1);
     for round in 0..4_000 {
-        let column = model::column(round % KINDS, 1 + chance.below(20));
+        let column = model::column(round % model::PAIRS, 1 + chance.below(20));
         let rows = model::some_rows(column.kind, 60, &mut chance);
         let block = model::block_of(column, &rows);
         let stored: Vec<Value> = rows.iter().map(|row| model::stored(column, row)).collect();
@@ -27,7 +25,7 @@ fn rows_come_back_in_their_stored_form() {
 fn any_calls_answer_as_the_rows_tell() {
     let mut chance = Chance::new(2);
     for round in 0..4_000 {
-        let column = model::column(round % KINDS, 1 + chance.below(20));
+        let column = model::column(round % model::PAIRS, 1 + chance.below(20));
         let rows = model::some_rows(column.kind, 40, &mut chance);
         let block = model::block_of(column, &rows);
         let rows: Vec<Value> = rows.iter().map(|row| model::stored(column, row)).collect();
@@ -70,7 +68,7 @@ fn damaged_blocks_get_the_number_of_document_01() {
     let mut chance = Chance::new(3);
     let mut seen = [0u32; 17];
     for round in 0..200_000 {
-        let column = model::column(round % KINDS, 1 + chance.below(5));
+        let column = model::column(round % model::PAIRS, 1 + chance.below(5));
         let rows = model::some_rows(column.kind, 12, &mut chance);
         let (block, n) = model::damaged(&model::block_of(column, &rows), rows.len() as u64, &mut chance);
         let number = model::open_number(column, n, &block);
@@ -111,7 +109,7 @@ fn memory_changed_between_calls_is_refused_or_read_and_nothing_is_written_by_a_r
     let mut chance = Chance::new(4);
     let (mut refused, mut read) = (0, 0);
     for round in 0..100_000 {
-        let column = model::column(round % KINDS, 1 + chance.below(5));
+        let column = model::column(round % model::PAIRS, 1 + chance.below(5));
         let rows = model::some_rows(column.kind, 12, &mut chance);
         let mut block = model::block_of(column, &rows);
         let (kind, encoding, width) = column.numbers();
@@ -189,7 +187,7 @@ fn forged_records_get_an_answer() {
             }
         };
         let mut reader = ReaderRecord {
-            kind: number() % 11,
+            kind: number() % 13,
             encoding: number() % 6,
             width: number(),
             rows: number(),

@@ -74,6 +74,37 @@ pub fn crafted(column: Column, spelling: Spelling, chance: &mut Chance) -> (Vec<
     }
 }
 
+/// Rows as the model draws them. Of floats the list has no NaN and at most one of the two zeros: on such the original judges, which takes the
+/// zeros for equal, and every NaN for every other.
+pub fn judged_rows(kind: Kind, most: u64, chance: &mut Chance) -> Vec<Value> {
+    let zero = if chance.one_in(2) { 0.0 } else { -0.0 };
+    let judged = |row| match row {
+        Value::F64(value) if value == 0.0 => Value::F64(zero),
+        Value::F64(value) if value.is_nan() => Value::F64(f64::from_bits(value.to_bits() ^ (1 << 62))),
+        other => other,
+    };
+    model::some_rows(kind, most, chance).into_iter().map(judged).collect()
+}
+
+/// What the original takes for one value and the port for two: the zeros, or NaNs.
+#[derive(Clone, Copy, PartialEq)]
+pub enum Alike {
+    Zeros,
+    Nans,
+}
+
+/// Floats of which some are alike, and nulls.
+pub fn alike_rows(alike: Alike, chance: &mut Chance) -> Vec<Value> {
+    const NANS: [u64; 3] = [0x7FF8 << 48, (0x7FF0 << 48) + 1, 0xFFF8 << 48];
+    let float = |chance: &mut Chance| match (chance.below(5), alike) {
+        (0, _) => Value::Null,
+        (1, _) => Value::F64(1.0),
+        (_, Alike::Zeros) => Value::F64([0.0, -0.0][chance.below(2) as usize]),
+        (_, Alike::Nans) => Value::F64(f64::from_bits(NANS[chance.below(3) as usize])),
+    };
+    (0..1 + chance.below(6)).map(|_| float(chance)).collect()
+}
+
 /// A small alphabet of a kind.
 pub fn alphabet(kind: Kind) -> Vec<Value> {
     let texts = |texts: [&str; 3]| texts.map(|text| Value::Bytes(text.as_bytes().to_vec())).to_vec();
@@ -81,6 +112,7 @@ pub fn alphabet(kind: Kind) -> Vec<Value> {
         Kind::Bool => vec![Value::Int(0), Value::Int(1)],
         Kind::Char(_) => texts(["", "a", "a\0"]),
         Kind::Blob => texts(["", "a", "ab"]),
+        Kind::F64 => vec![Value::F64(0.0), Value::F64(1.0), Value::F64(-1.0)],
         _ => vec![Value::Int(0), Value::Int(1), Value::Int(-1)],
     };
     all.push(Value::Null);

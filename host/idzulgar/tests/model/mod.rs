@@ -14,7 +14,7 @@ fn width(kind: Kind) -> usize {
         Kind::Bool => 1,
         Kind::I16 => 2,
         Kind::I32 | Kind::Date => 4,
-        Kind::I64 | Kind::Timestamp | Kind::TimestampTz | Kind::Interval => 8,
+        Kind::I64 | Kind::Timestamp | Kind::TimestampTz | Kind::Interval | Kind::F64 => 8,
         Kind::Char(width) => width as usize,
         Kind::Blob => 0,
     }
@@ -37,6 +37,7 @@ fn item(kind: Kind, row: &Value) -> Vec<u8> {
         (Kind::Blob, _) => Vec::new(),
         (_, Value::Int(value)) if is_big(kind) => value.to_be_bytes()[8 - width(kind)..].to_vec(),
         (_, Value::Int(value)) => value.to_le_bytes()[..width(kind)].to_vec(),
+        (_, Value::F64(value)) => value.to_bits().to_le_bytes().to_vec(),
         _ => vec![0; width(kind)],
     }
 }
@@ -269,7 +270,7 @@ fn dictionary_number(kind: Kind, n: u64, b: &[u8]) -> u8 {
     plain_number(kind, entries, rest)
 }
 
-/// Opening's number for a column that is one of the fifty pairs.
+/// Opening's number for a column that is one of the pairs.
 pub fn open_number(column: Column, n: u64, b: &[u8]) -> u8 {
     let kind = column.kind;
     if kind == Kind::Char(0) {
@@ -303,6 +304,7 @@ fn plain_row(kind: Kind, n: u64, b: &[u8], place: usize) -> Value {
         }
         Kind::Char(_) => Value::Bytes(b[place * w..][..w].iter().copied().take_while(|byte| *byte != 0).collect()),
         Kind::Bool => Value::Int((b[place] != 0) as i64),
+        Kind::F64 => Value::F64(f64::from_le_bytes(b[place * w..][..w].try_into().unwrap())),
         _ => {
             let item = &b[place * w..][..w];
             let bits = if is_big(kind) {
@@ -386,10 +388,14 @@ impl Chance {
     }
 }
 
-/// Every pair of a kind and an encoding; char with the given width.
+/// The kinds' numbers, and how many pairs of a kind and an encoding there are.
+const KINDS: [u64; 11] = [0, 1, 2, 3, 4, 5, 6, 7, 8, 9, 11];
+pub const PAIRS: u64 = 5 * KINDS.len() as u64;
+
+/// Every pair of a kind and an encoding, by a number below [`PAIRS`]; char with the given width.
 pub fn column(pair: u64, width: u64) -> Column {
-    let kind = pair / 5;
-    Column::numbered(kind, pair % 5, if kind == 8 { width } else { 0 }).expect("one of the fifty pairs")
+    let kind = KINDS[(pair / 5) as usize];
+    Column::numbered(kind, pair % 5, if kind == 8 { width } else { 0 }).expect("one of the pairs")
 }
 
 /// A row that isn't null. Char rows are text.
@@ -436,7 +442,20 @@ fn some_row(kind: Kind, chance: &mut Chance) -> Value {
             };
             Value::Bytes((0..len).map(|_| if chance.one_in(3) { 0 } else { chance.number() as u8 }).collect())
         }
+        Kind::F64 => Value::F64(some_float(chance)),
         _ => integer(chance, 64),
+    }
+}
+
+/// A float: a rate, one of those that are not as others are, or any bits.
+fn some_float(chance: &mut Chance) -> f64 {
+    match chance.below(8) {
+        0 => 0.0,
+        1 => -0.0,
+        2 => [f64::INFINITY, f64::NEG_INFINITY, f64::MIN_POSITIVE / 2.0, f64::MAX][chance.below(4) as usize],
+        3 => f64::from_bits([0x7FF8 << 48, 0xFFF8 << 48, (0x7FF8 << 48) + 1, (0x7FF0 << 48) + 1][chance.below(4) as usize]),
+        4 | 5 => chance.below(400) as f64 / 1e4,
+        _ => f64::from_bits(chance.number()),
     }
 }
 
@@ -461,13 +480,11 @@ pub fn some_rows(kind: Kind, most: u64, chance: &mut Chance) -> Vec<Value> {
 /// What a block gives back of a row: char is cut at its first NUL, and without flags or keys a null becomes the default.
 pub fn stored(column: Column, row: &Value) -> Value {
     match row {
-        Value::Null if matches!(column.encoding, Encoding::Plain | Encoding::RunLength) => {
-            if column.kind.is_bytes() {
-                Value::Bytes(Vec::new())
-            } else {
-                Value::Int(0)
-            }
-        }
+        Value::Null if matches!(column.encoding, Encoding::Plain | Encoding::RunLength) => match column.kind {
+            Kind::Char(_) | Kind::Blob => Value::Bytes(Vec::new()),
+            Kind::F64 => Value::F64(0.0),
+            _ => Value::Int(0),
+        },
         Value::Bytes(bytes) if matches!(column.kind, Kind::Char(_)) => {
             Value::Bytes(bytes.iter().copied().take_while(|byte| *byte != 0).collect())
         }

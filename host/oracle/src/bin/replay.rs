@@ -8,7 +8,7 @@
 use std::fmt::Write;
 
 use idzulgar::{Column, Encoding, Kind, Value};
-use oracle::lists::{alphabet, crafted, Spelling};
+use oracle::lists::{alphabet, crafted, judged_rows, Spelling};
 use oracle::model::{self, Chance};
 use oracle::{caught, padded};
 
@@ -64,11 +64,18 @@ impl Script {
         match row {
             Value::Null => self.say(format_args!(" null")),
             Value::Int(value) => self.say(format_args!(" {value:x}")),
+            Value::F64(value) => self.say(format_args!(" {:x}", value.to_bits())),
             Value::Bytes(bytes) => {
                 self.say(format_args!(" ="));
                 self.say_bytes(bytes);
             }
         }
+    }
+
+    fn fixed(&mut self, bits: u64) {
+        self.number(1);
+        self.number(bits);
+        self.number(0);
     }
 
     /// The commands that build rows, of which equal ones are one command, and the answers.
@@ -85,11 +92,8 @@ impl Script {
             self.number(equal.len() as u64);
             match &equal[0] {
                 Value::Null => self.commands.extend([0, 0, 0]),
-                Value::Int(value) => {
-                    self.number(1);
-                    self.number(*value as u64);
-                    self.number(0);
-                }
+                Value::Int(value) => self.fixed(*value as u64),
+                Value::F64(value) => self.fixed(value.to_bits()),
                 Value::Bytes(bytes) => {
                     self.commands.extend([1, 0]);
                     self.bytes(bytes);
@@ -185,7 +189,7 @@ fn main() {
     let seed = words.get(1).map_or(1, |word| word.parse().expect("a seed"));
     let mut chance = Chance::new(seed);
     let mut script = Script::default();
-    for pair in 0..50 {
+    for pair in 0..model::PAIRS {
         for round in 0..24 {
             let column = model::column(pair, if chance.one_in(12) { 9 + chance.below(40) } else { 1 + chance.below(8) });
             let letters: Vec<Value> = alphabet(column.kind).into_iter().filter(|row| fits(column.kind, row)).collect();
@@ -193,7 +197,7 @@ fn main() {
             let rows = match round {
                 0 => vec![],
                 1..=8 => (0..1 + chance.below(6)).map(|_| letters[chance.below(letters.len() as u64) as usize].clone()).collect(),
-                9..=18 => model::some_rows(column.kind, 14, &mut chance),
+                9..=18 => judged_rows(column.kind, 14, &mut chance),
                 19 => {
                     let mut rows = vec![letters[1].clone(); 120 + chance.below(12) as usize];
                     rows.extend([letters[0].clone(), letters[letters.len() - 1].clone(), letters[0].clone()]);

@@ -1,4 +1,4 @@
-//! Builds document 01's block samples A to E with the original, and compares them byte for byte.
+//! Builds document 01's block samples A to E, H, and one of floats with the original, and compares them byte for byte.
 use idzulgar::{Column, Value};
 use oracle::build;
 
@@ -33,6 +33,14 @@ fn main() {
         ("D", 8, 0, 3, vec![bytes("a"), bytes("abc"), bytes("x\0y")], "610000 616263 780079"),
         ("E, a Date", 4, 0, 0, vec![Value::Int(1)], "00000001"),
         ("E, an Interval", 7, 0, 0, vec![Value::Int((14 << 32) + (-3i32 as u32 as i64))], "0000000E FFFFFFFD"),
+        (
+            "1.0 1.0 -0.0",
+            11,
+            2,
+            0,
+            vec![Value::F64(1.0), Value::F64(1.0), Value::F64(-0.0)],
+            "02000000 02000000 02 01 000000000000F03F 0000000000000080",
+        ),
         ("H, nullable", 2, 1, 0, vec![], "00000000"),
         ("H, run-length", 2, 2, 0, vec![], ""),
         ("H, run-length over nullable", 2, 3, 0, vec![], ""),
@@ -40,7 +48,7 @@ fn main() {
     ];
     let (mut passed, mut failed) = (0, 0);
     for (name, kind, encoding, width, rows, block) in samples {
-        let built = build(Column::numbered(kind, encoding, width).expect("one of the fifty pairs"), 1 << 16, &rows);
+        let built = build(Column::numbered(kind, encoding, width).expect("one of the pairs"), 1 << 16, &rows);
         let same = built.block == hex(block);
         println!(
             "{name}: {} bytes, estimate {}: {}",

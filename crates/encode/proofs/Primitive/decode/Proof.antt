@@ -1,6 +1,6 @@
 -- `Primitive::decode` meets its contract: each arm is what its kind's own function ensures. Assumes nothing.
 use borrow.Author.Needs.{needs}
-use Rattle.encode.specs.declared.Primitive.the-variants.{Bool as Boolean, I16, I32, I64, Date, Timestamp, TimestampTz, Interval}
+use Rattle.encode.specs.declared.Primitive.the-variants.{Bool as Boolean, I16, I32, I64, Date, Timestamp, TimestampTz, Interval, F64}
 use Rattle.encode.proofs.ByKind.{decode-found}
 use Rattle.encode.proofs.Primitive.decode.Statement.{statement}
 use Rattle.encode.proofs.Primitive.decode.Tie as tie
@@ -29,6 +29,9 @@ returns-7 c = decode-found TimestampTz (c .before .enum-told7 .given .1) (c .bef
 returns-8 : tie.Need-returns-8
 returns-8 c = decode-found Interval (c .before .enum-told8 .given .1) (c .before .before .before .args .item) (c .decode8 .ensures) (search needs)
 
+returns-9 : tie.Need-returns-9
+returns-9 c = decode-found F64 (c .before .enum-told9 .given .1) (c .before .before .before .args .item) (c .decode9 .ensures) (search needs)
+
 pub decode-spec : {M : Type 1} → statement M
 decode-spec =
     tie.close
@@ -37,4 +40,5 @@ decode-spec =
     (λ c. search needs) (λ c κs. search needs) (λ c. search needs) (λ c κs. search needs)
     (λ c. search needs) (λ c κs. search needs) (λ c. search needs) (λ c κs. search needs)
     (λ c. search needs) (λ c κs. search needs) (λ c. search needs) (λ c κs. search needs)
-    returns returns-2 returns-3 returns-4 returns-5 returns-6 returns-7 returns-8)
+    (λ c. search needs) (λ c κs. search needs)
+    returns returns-2 returns-3 returns-4 returns-5 returns-6 returns-7 returns-8 returns-9)

@@ -1,6 +1,6 @@
 -- `Primitive::takes` meets its contract: each arm is what its kind's own function ensures. Assumes nothing.
 use borrow.Author.Needs.{needs}
-use Rattle.encode.specs.declared.Primitive.the-variants.{Bool as Boolean, I16, I32, I64, Date, Timestamp, TimestampTz, Interval}
+use Rattle.encode.specs.declared.Primitive.the-variants.{Bool as Boolean, I16, I32, I64, Date, Timestamp, TimestampTz, Interval, F64}
 use Rattle.encode.proofs.ByKind.{takes-found}
 use Rattle.encode.proofs.Primitive.takes.Statement.{statement}
 use Rattle.encode.proofs.Primitive.takes.Tie as tie
@@ -29,6 +29,9 @@ returns-7 c = takes-found TimestampTz (c .before .enum-told7 .given .1) (c .befo
 returns-8 : tie.Need-returns-8
 returns-8 c = takes-found Interval (c .before .enum-told8 .given .1) (c .before .before .before .fits .v) (c .takes8 .ensures)
 
+returns-9 : tie.Need-returns-9
+returns-9 c = takes-found F64 (c .before .enum-told9 .given .1) (c .before .before .before .fits .v) (c .takes9 .ensures)
+
 pub takes-spec : {M : Type 1} → statement M
 takes-spec =
     tie.close
@@ -37,4 +40,5 @@ takes-spec =
     (λ c. search needs) (λ c κs. search needs) (λ c. search needs) (λ c κs. search needs)
     (λ c. search needs) (λ c κs. search needs) (λ c. search needs) (λ c κs. search needs)
     (λ c. search needs) (λ c κs. search needs) (λ c. search needs) (λ c κs. search needs)
-    returns returns-2 returns-3 returns-4 returns-5 returns-6 returns-7 returns-8)
+    (λ c. search needs) (λ c κs. search needs)
+    returns returns-2 returns-3 returns-4 returns-5 returns-6 returns-7 returns-8 returns-9)

@@ -7,14 +7,14 @@ use mathlib.Core.List.{[], _∷_}
 use types.Run.{OneOf, miss}
 use denote.Enum.Declared.{tagOf}
 use Rattle.encode.specs.declared.Primitive.{Primitive}
-use Rattle.encode.specs.declared.Primitive.the-variants.{Bool as Boolean, I16, I32, I64, Date, Timestamp, TimestampTz, Interval}
+use Rattle.encode.specs.declared.Primitive.the-variants.{Bool as Boolean, I16, I32, I64, Date, Timestamp, TimestampTz, Interval, F64}
 use Rattle.encode.proofs.Primitive.{the-type}
 use Rattle.text.specs.Text.{isInterval}
 use Rattle.text.proofs.text.is_interval.Statement.{statement}
 use Rattle.text.proofs.text.is_interval.Tie as tie
 
 -- the kinds that the last arm takes
-other : (p : Primitive) → OneOf (0 ∷ 1 ∷ 2 ∷ 3 ∷ 4 ∷ 5 ∷ 6 ∷ []) (tagOf the-type p) → false ≡ isInterval p
+other : (p : Primitive) → OneOf (0 ∷ 1 ∷ 2 ∷ 3 ∷ 4 ∷ 5 ∷ 6 ∷ 8 ∷ []) (tagOf the-type p) → false ≡ isInterval p
 unfolding isInterval
 other Boolean h = refl
 other I16 h = refl
@@ -23,7 +23,8 @@ other I64 h = refl
 other Date h = refl
 other Timestamp h = refl
 other TimestampTz h = refl
-other Interval h = absurd (miss (0 ∷ 1 ∷ 2 ∷ 3 ∷ 4 ∷ 5 ∷ 6 ∷ []) 7 tt h)
+other Interval h = absurd (miss (0 ∷ 1 ∷ 2 ∷ 3 ∷ 4 ∷ 5 ∷ 6 ∷ 8 ∷ []) 7 tt h)
+other F64 h = refl
 
 enum-told : tie.Need-enum-told
 enum-told c = search needs

@@ -23,6 +23,7 @@ fn parts(row: &Value) -> (bool, i64, &[u8]) {
         Value::Null => (false, 0, &[]),
         Value::Int(value) => (true, *value, &[]),
         Value::Bytes(bytes) => (true, 0, bytes),
+        Value::F64(value) => (true, value.to_bits() as i64, &[]),
     }
 }
 
@@ -174,7 +175,7 @@ fn dictionary(kind: Kind, entries: usize, more: usize) -> (Case, BuilderRecord, 
 fn check_by_hand() {
     let mut chance = Chance::new(3);
     for round in 0..20_000 {
-        let column = model::column(round % 50, 1 + chance.below(20));
+        let column = model::column(round % model::PAIRS, 1 + chance.below(20));
         let rows = model::some_rows(column.kind, 30, &mut chance);
         // areas that are too short at times
         let room = if chance.one_in(3) { chance.below(30) as usize } else { rows.len() };

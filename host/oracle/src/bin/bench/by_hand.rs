@@ -18,7 +18,7 @@ fn width_of(b: &BuilderRecord) -> Option<usize> {
         0 => 1,
         1 => 2,
         2 | 4 => 4,
-        3 | 5 | 6 | 7 => 8,
+        3 | 5 | 6 | 7 | 11 => 8,
         CHAR if (1..=255).contains(&b.width) => return (b.encoding <= 4).then_some(b.width),
         BLOB => 0,
         _ => return None,
@@ -119,7 +119,7 @@ fn value_at(kind: usize, items: &[u8], i: usize) -> i64 {
         0 => (items[i] != 0) as i64,
         1 => i16::from_le_bytes(bytes_at(items, 2 * i)) as i64,
         2 => i32::from_le_bytes(bytes_at(items, 4 * i)) as i64,
-        3 => i64::from_le_bytes(bytes_at(items, 8 * i)),
+        3 | 11 => i64::from_le_bytes(bytes_at(items, 8 * i)),
         4 => i32::from_be_bytes(bytes_at(items, 4 * i)) as i64,
         _ => i64::from_be_bytes(bytes_at(items, 8 * i)),
     }
@@ -141,7 +141,7 @@ fn put_value(kind: usize, value: i64, items: &mut [u8], at: usize) {
         0 => items[at] = value as u8,
         1 => items[at..at + 2].copy_from_slice(&(value as i16).to_le_bytes()),
         2 => items[at..at + 4].copy_from_slice(&(value as i32).to_le_bytes()),
-        3 => items[at..at + 8].copy_from_slice(&value.to_le_bytes()),
+        3 | 11 => items[at..at + 8].copy_from_slice(&value.to_le_bytes()),
         4 => items[at..at + 4].copy_from_slice(&(value as i32).to_be_bytes()),
         _ => items[at..at + 8].copy_from_slice(&value.to_be_bytes()),
     }
