@@ -5,6 +5,9 @@ use native.Mathlib.Omega.{arith}
 use mathlib.Core.List.{List}
 use mathlib.Core.Path.{_≡_, refl, sym, ap, subst, _∙_}
 use lib.ListN.{replicate}
+use Rattle.varint.specs.declared.Count.{Count}
+use Rattle.varint.specs.declared.Count.the-variants.{Number, Bad}
+use Rattle.varint.specs.Varint.{countAt}
 use Rattle.rle.specs.declared.Spot.{Spot}
 use Rattle.rle.specs.declared.Rest.{Rest}
 use Rattle.rle.specs.declared.Rest.the-variants.{Rows, Wrong}
@@ -15,7 +18,7 @@ use Rattle.rle.specs.Stepping.{spot, here, stepsFrom}
 use Rattle.rle.specs.Pieces.{restOf, reached, Onward, Goes}
 use Rattle.rle.proofs.Steps.{reached-before}
 use Rattle.rle.proofs.OneRun.{here-is}
-use Rattle.rle.proofs.RestOfRun.{Found, found, wrong-stuck, found-in, found-past, rest-past}
+use Rattle.rle.proofs.RestOfRun.{Found, found, wrong-stuck, found-in, found-past, rest-past, rest-bad, rest-zero, rest-rows}
 
 pub record Going (runs : ℕ) (counts : List ℕ) (n : ℕ) (s : Spot) (run at taken left : ℕ) : Type 0 where
   pub whole : reached (stepsFrom runs counts n s) ≡ reached (stepsFrom runs counts left (spot run at taken))
@@ -110,6 +113,54 @@ module _ {counts : List ℕ} {stop n : ℕ} {s : Spot} {run at left : ℕ} (w : 
         few = omega (arith, w .few);
         inside = λ h. omega (arith, passing-found .inside);
       }
+
+-- ---- the same with the runs that are left before `stop` counted down
+pub record Few (counts : List ℕ) (stop n : ℕ) (s : Spot) (few at left : ℕ) : Type 0 where
+  pub passing : Passing counts stop n s (stop - few) at left
+  pub within : few ≤ stop
+
+pub few-start : (counts : List ℕ) (most n run at : ℕ) → Few counts (run + most) n (spot run at 0) most at n
+few-start counts most n run at =
+    let m : run + most - most ≡ run = omega arith in
+    record { passing = rw m (passing-start counts (run + most) n run at); within = omega arith }
+
+module _ {counts : List ℕ} {stop n : ℕ} {s : Spot} {few at left : ℕ} (w : Few counts stop n s few at left) where
+  pub few-end : left ≤ 0 → Goes counts stop s n (To (spot (stop - few) at 0) 0)
+  few-end z = passing-end (w .passing) z
+
+  pub few-used : few ≡ 0 → Goes counts stop s n (To (spot stop at 0) left)
+  few-used z =
+      let m : stop - few ≡ stop = omega arith in
+      rw m at (passing-stop (w .passing) (omega arith))
+
+  -- a run before `stop`, by its count
+  module _ (l : 0 < left) (some : few ≡ 0 → ⊥) {c : Count} (e : c ≡ countAt counts at) where
+    before-stop : stop - few < stop
+    before-stop = omega (arith, w .within)
+
+    pub few-bad : c ≡ Bad → Goes counts stop s n StuckOnTheWay
+    few-bad b = passing-wrong (w .passing) l (rest-bad stop counts (spot (stop - few) at 0) before-stop e b) refl before-stop
+
+    module _ {v len : ℕ} (b : c ≡ Number v len) where
+      pub few-zero : v ≡ 0 → Goes counts stop s n StuckOnTheWay
+      few-zero z = passing-wrong (w .passing) l (rest-zero stop counts (spot (stop - few) at 0) before-stop e b z) refl before-stop
+
+      module _ (z : v ≡ 0 → ⊥) where
+        free : Rows v len ≡ restOf (here stop counts (spot (stop - few) at 0)) 0
+        free =
+            let m : v - 0 ≡ v = omega arith in
+            ap (λ (k : ℕ). Rows k len) (sym m) ∙ rest-rows stop counts (spot (stop - few) at 0) before-stop e b z (omega arith)
+
+        pub few-found : Found stop counts (spot (stop - few) at 0) v len
+        few-found = passing-found (w .passing) l free refl
+
+        pub few-in : left < v → Goes counts stop s n (To (spot (stop - few) at left) 0)
+        few-in h = passing-in (w .passing) l free refl h
+
+        pub few-on : v ≤ left → Few counts stop n s (few - 1) (at + len) (left - v)
+        few-on h =
+            let m : stop - few + 1 ≡ stop - (few - 1) = omega (arith, w .within) in
+            record { passing = rw m at (passing-on (w .passing) l free refl h); within = omega (arith, w .within) }
 
 -- ---- no run is left
 module _ {runs : ℕ} {counts : List ℕ} {n : ℕ} {s : Spot} {run at taken left : ℕ} (w : Going runs counts n s run at taken left) where

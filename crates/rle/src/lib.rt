@@ -4,9 +4,10 @@ use limits::MOST_ROWS;
 use limits::refusal;
 use varint::Count;
 ghost use mathlib.Core.Path.{_≡_};
-ghost use Prim.Native.Nat.{_≤_};
+ghost use Prim.Native.Nat.{_+_, _≤_, _<_};
 ghost use lib.ListN.{length};
 ghost use Rattle.limits.specs.Limits.{MOST_BYTES, MOST_ITEMS};
+ghost use Rattle.rle.specs.declared.Gone.the-variants.{To};
 ghost use Rattle.rle.specs.RunLength.{walked};
 ghost use Rattle.rle.specs.Stepping.{spot, here, stepsFrom};
 ghost use Rattle.rle.specs.Pieces.{headFound, restOf, pieceIn, reached, Walks, Goes};
@@ -62,8 +63,24 @@ enum Gone {
     Stuck,
 }
 
-// How many counts are taken one by one before a group is looked at again.
-const ONE_BY_ONE: usize = 32;
+// How many counts are taken one by one before groups are looked at again, at first and at most.
+const FEW: usize = 16;
+
+const MANY: usize = 128;
+
+// That number after a look: twice as many where it was in vain, so that blocks of longer counts don't pay for looks.
+fn next_few(few: usize, passed: usize) -> usize
+    requires { ⌜ 0 < few ⌝ }
+    ensures { λ r. ⌜ 0 < r ⌝ }
+{
+    if 0 < passed {
+        return FEW;
+    }
+    if few < MANY {
+        return 2 * few;
+    }
+    few
+}
 
 // Walks the first `n` counts of `s`, one by one: none is 0.
 fn walk_few(s: &[u8], n: usize) -> First
@@ -95,7 +112,7 @@ fn walk_few(s: &[u8], n: usize) -> First
 }
 
 // Walks the counts of `runs` runs: none is 0, and they fill `s`. Counts of a byte each go in groups; where a group has a longer one, some
-// go one by one, so that longer counts now and then don't have each group looked at in vain.
+// go one by one.
 pub fn walk(s: &[u8], runs: usize) -> Walked
     requires { ⌜ length (now s) ≤ MOST_BYTES ⌝ }
     ensures { λ r. ⌜ r ≡ walked runs (now (s .entry)) ⌝ }
@@ -103,12 +120,14 @@ pub fn walk(s: &[u8], runs: usize) -> Walked
     let mut at: usize = 0;
     let mut total: u64 = 0;
     let mut left = runs;
+    let mut most = FEW;
     while 0 < left {
         let short = shorts::pass(s, at, left, MOST_ROWS);
         at += short.runs;
         total += short.rows as u64;
         left -= short.runs;
-        let few = area::least(left, ONE_BY_ONE);
+        most = next_few(most, short.runs);
+        let few = area::least(left, most);
         let first = walk_few(&s[at..], few);
         match first {
             First::Refused(e) => {
@@ -230,43 +249,46 @@ pub fn take_piece(coded: bool, counts: &[u8], runs: usize, s: Spot, left: usize)
     }
 }
 
-// Passes over `n` rows from the start of a run on, run by run, up to the run `stop`.
-fn pass_runs(counts: &[u8], stop: usize, first: usize, from: usize, n: usize) -> Gone
-    requires { ⌜ stop ≤ MOST_ITEMS ⌝ }
-    ensures { λ r. ⌜ Goes (now (counts .entry)) stop (spot first from 0) n r ⌝ }
+// A place, and rows that are left to pass from there.
+fn gone_to(run: usize, at: usize, taken: usize, left: usize) -> Gone
+    ensures { λ r. ⌜ r ≡ To (spot run at taken) left ⌝ }
 {
-    let mut run = first;
+    Gone::To {
+        spot: Spot { run, at, taken },
+        left,
+    }
+}
+
+// Passes over `n` rows from the start of a run on, run by run, of at most `most` runs. The runs are counted down, which keeps the machine code
+// from adding up the run and its place as a pair, at twice the cost.
+fn pass_runs(counts: &[u8], most: usize, first: usize, from: usize, n: usize) -> Gone
+    requires { ⌜ first + most ≤ MOST_ITEMS ⌝ }
+    ensures { λ r. ⌜ Goes (now (counts .entry)) (first + most) (spot first from 0) n r ⌝ }
+{
+    let stop = first + most;
+    let mut few = most;
     let mut at = from;
     let mut left = n;
     while 0 < left {
-        let rest = rest_of(counts, stop, Spot { run, at, taken: 0 });
-        let Rest::Rows { free, len } = rest else {
-            if run < stop {
-                return Gone::Stuck;
-            }
-            return Gone::To {
-                spot: Spot { run, at, taken: 0 },
-                left,
-            };
-        };
-        if left < free {
-            return Gone::To {
-                spot: Spot {
-                    run,
-                    at,
-                    taken: left,
-                },
-                left: 0,
-            };
+        if few == 0 {
+            return gone_to(stop, at, 0, left);
         }
-        left -= free;
-        run += 1;
+        let count = varint::decode_u32(counts, at);
+        let Count::Number { value, len } = count else {
+            return Gone::Stuck;
+        };
+        let rows = value as usize;
+        if rows == 0 {
+            return Gone::Stuck;
+        }
+        if left < rows {
+            return gone_to(stop - few, at, left, 0);
+        }
+        left -= rows;
+        few -= 1;
         at += len;
     }
-    Gone::To {
-        spot: Spot { run, at, taken: 0 },
-        left: 0,
-    }
+    gone_to(stop - few, at, 0, 0)
 }
 
 // Passes over `n` rows from the start of a run on: runs whose counts are a byte each in groups, then some one by one, and so on.
@@ -277,6 +299,7 @@ fn pass_on(counts: &[u8], runs: usize, first: usize, from: usize, n: usize) -> R
     let mut run = first;
     let mut at = from;
     let mut left = n;
+    let mut most = FEW;
     while 0 < left {
         if runs <= run {
             return Reached::Stuck;
@@ -285,8 +308,8 @@ fn pass_on(counts: &[u8], runs: usize, first: usize, from: usize, n: usize) -> R
         run += short.runs;
         at += short.runs;
         left -= short.rows;
-        let stop = area::least(runs, run + ONE_BY_ONE);
-        let gone = pass_runs(counts, stop, run, at, left);
+        most = next_few(most, short.runs);
+        let gone = pass_runs(counts, area::least(runs - run, most), run, at, left);
         let Gone::To { spot, left: rows } = gone else {
             return Reached::Stuck;
         };

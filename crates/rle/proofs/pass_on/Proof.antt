@@ -11,10 +11,10 @@ use Rattle.rle.proofs.pass_on.Statement.{statement}
 use Rattle.rle.proofs.pass_on.Tie as tie
 
 abbrev Inv-loop : tie.InvT-loop
-Inv-loop counts runs first from n run₀ at₀ left₀ run at left = Going runs counts n (spot first from 0) run at 0 left × (at < 2 ^ 64)
+Inv-loop counts runs first from n run₀ at₀ left₀ most₀ run at left most = Going runs counts n (spot first from 0) run at 0 left × (at < 2 ^ 64) × (0 < most)
 
 abbrev μ-loop : tie.MeasureT-loop
-μ-loop counts runs first from n run₀ at₀ left₀ run at left = runs - run
+μ-loop counts runs first from n run₀ at₀ left₀ most₀ run at left most = runs - run
 
 abbrev entry : tie.At-loop Inv-loop μ-loop → tie.Start Inv-loop μ-loop
 entry h = h .before .before
@@ -25,20 +25,21 @@ inside c = grouped-inside (c .before .before .before .loop .inv .0) (omega arith
 
 -- the run to stop at is one of those behind them, or there is none
 abbrev at-groups : tie.After-least Inv-loop μ-loop → tie.After-pass Inv-loop μ-loop
-at-groups c = c .before .before .before .before
+at-groups c = c .before .before .before .before .before
 
 abbrev at-pass : tie.After-pass-runs Inv-loop μ-loop → tie.After-pass Inv-loop μ-loop
 at-pass c = at-groups (c .before)
 
-stop-within : (c : tie.After-least Inv-loop μ-loop) → c .least .result ≤ entry (at-groups c .before .before .before) .args .runs
-stop-within c = omega (arith, c .least .ensures)
+stop-within : (c : tie.After-least Inv-loop μ-loop) → let p = at-groups c in let h = p .before .before .before in
+    h .loop .run + p .pass .result .runs + c .least .result ≤ entry h .args .runs
+stop-within c = omega (arith, c .least .ensures, inside (at-groups c))
 
 stop-behind : (c : tie.After-least Inv-loop μ-loop) → let p = at-groups c in let h = p .before .before .before in
-    h .loop .run + p .pass .result .runs < entry h .args .runs → h .loop .run + p .pass .result .runs < c .least .result
-stop-behind c l = omega (arith, c .least .ensures)
+    h .loop .run + p .pass .result .runs < entry h .args .runs → h .loop .run + p .pass .result .runs < h .loop .run + p .pass .result .runs + c .least .result
+stop-behind c l = omega (arith, c .least .ensures, c .before .next-few .ensures)
 
 loop-holds : tie.Need-loop-holds Inv-loop μ-loop
-loop-holds c = (record { whole = refl }, omega arith)
+loop-holds c = (record { whole = refl }, omega arith, omega arith)
 
 returns : tie.Need-returns Inv-loop μ-loop
 returns c = going-past (c .before .before .loop .inv .0) (omega arith) (omega arith)
@@ -61,14 +62,17 @@ add-at c =
 sub-left : tie.Need-sub-left Inv-loop μ-loop
 sub-left c = c .before .before .before .pass .ensures .fits
 
-add-least : tie.Need-add-least Inv-loop μ-loop
-add-least c = omega (arith, inside (c .before .before .before))
+next-few-requires : tie.Need-next-few-requires Inv-loop μ-loop
+next-few-requires c κs = c .before .before .before .before .before .before .loop .inv .2
+
+sub-least : tie.Need-sub-least Inv-loop μ-loop
+sub-least c = inside (c .before .before .before .before)
 
 least-requires : tie.Need-least-requires Inv-loop μ-loop
 least-requires c κs = search needs
 
 pass-runs-requires : tie.Need-pass-runs-requires Inv-loop μ-loop
-pass-runs-requires c κs = search needs
+pass-runs-requires c κs = omega (arith, stop-within c, entry (at-groups c .before .before .before) .pre)
 
 enum-known-gone : tie.Need-enum-known-gone Inv-loop μ-loop
 enum-known-gone c = search needs
@@ -105,6 +109,7 @@ loop-again c =
     let h = p .before .before .before in (
       part-on (h .loop .inv .0) (omega arith) (p .pass .ensures) (stop-within (g .before)) (g .pass-runs .ensures) (d .gone .given .1) (omega arith),
       omega (arith, c .before .known-told .given),
+      g .before .before .next-few .ensures,
     )
 
 returns-4 : tie.Need-returns-4 Inv-loop μ-loop
@@ -123,7 +128,8 @@ pass-on-spec =
     add-run
     add-at
     sub-left
-    add-least
+    next-few-requires
+    sub-least
     least-requires
     pass-runs-requires
     enum-known-gone

@@ -1,6 +1,6 @@
 -- `rle::walk` meets its contract. The loop keeps that the sum so far and the walk over the rest are the whole; the measure is the runs left.
 -- Assumes nothing.
-use Prim.Native.Nat.{_+_, _-_, _≤_}
+use Prim.Native.Nat.{_+_, _-_, _≤_, _<_}
 use native.Mathlib.Omega.{arith}
 use borrow.Author.Needs.{needs}
 use Rattle.rle.proofs.Walking.{Walking, walking-start, walk-over, walk-sum, first-refused, first-counted}
@@ -9,10 +9,10 @@ use Rattle.rle.proofs.walk.Statement.{statement}
 use Rattle.rle.proofs.walk.Tie as tie
 
 abbrev Inv-loop : tie.InvT-loop
-Inv-loop s runs at₀ total₀ left₀ at total left = Walking s runs at total left
+Inv-loop s runs at₀ total₀ left₀ most₀ at total left most = Walking s runs at total left × (0 < most)
 
 abbrev μ-loop : tie.MeasureT-loop
-μ-loop s runs at₀ total₀ left₀ at total left = left
+μ-loop s runs at₀ total₀ left₀ most₀ at total left most = left
 
 abbrev entry : tie.At-loop Inv-loop μ-loop → tie.Start Inv-loop μ-loop
 entry h = h .before .before
@@ -20,11 +20,11 @@ entry h = h .before .before
 -- the counts that went in groups
 grouped : (c : tie.After-pass Inv-loop μ-loop) → let a = entry (c .before .before) .args in let l = c .before .before .loop in
     Walking (a .s .now) (a .runs) (l .at + c .pass .result .runs) (l .total + c .pass .result .rows) (l .left - c .pass .result .runs)
-grouped c = walking-shorts (c .before .before .loop .inv) (c .pass .ensures)
+grouped c = walking-shorts (c .before .before .loop .inv .0) (c .pass .ensures)
 
 -- those that go one by one are some of the rest
 abbrev at-pass : tie.After-least Inv-loop μ-loop → tie.After-pass Inv-loop μ-loop
-at-pass c = c .before .before .before
+at-pass c = c .before .before .before .before
 
 few-within : (c : tie.After-least Inv-loop μ-loop) → let d = at-pass c in c .least .result ≤ d .before .before .loop .left - d .pass .result .runs
 few-within c = omega (arith, c .least .ensures)
@@ -40,7 +40,7 @@ one-by-one c =
     first-counted (grouped (at-pass (at-least c))) (few-within (at-least c)) (d .walk-few .ensures) (c .before .first2 .given .1)
 
 loop-holds : tie.Need-loop-holds Inv-loop μ-loop
-loop-holds c = walking-start _ _
+loop-holds c = (walking-start _ _, omega arith)
 
 pass-requires : tie.Need-pass-requires Inv-loop μ-loop
 pass-requires c κs = search needs
@@ -53,6 +53,9 @@ add-total c = omega (arith, grouped (c .before) .small, grouped (c .before) .wit
 
 sub-left : tie.Need-sub-left Inv-loop μ-loop
 sub-left c = c .before .before .pass .ensures .few
+
+next-few-requires : tie.Need-next-few-requires Inv-loop μ-loop
+next-few-requires c κs = c .before .before .before .before .loop .inv .1
 
 least-requires : tie.Need-least-requires Inv-loop μ-loop
 least-requires c κs = search needs
@@ -93,13 +96,13 @@ loop-less : tie.Need-loop-less Inv-loop μ-loop
 loop-less c = search needs
 
 loop-again : tie.Need-loop-again Inv-loop μ-loop
-loop-again c = one-by-one c
+loop-again c = (one-by-one c, at-least c .before .next-few .ensures)
 
 returns-2 : tie.Need-returns-2 Inv-loop μ-loop
-returns-2 c = walk-over (c .before .before .loop .inv) (omega arith) (omega arith)
+returns-2 c = walk-over (c .before .before .loop .inv .0) (omega arith) (omega arith)
 
 returns-3 : tie.Need-returns-3 Inv-loop μ-loop
-returns-3 c = walk-sum (c .before .before .loop .inv) (omega arith) (omega arith)
+returns-3 c = walk-sum (c .before .before .loop .inv .0) (omega arith) (omega arith)
 
 pub walk-spec : {M : Type 1} → statement M
 walk-spec =
@@ -112,6 +115,7 @@ walk-spec =
     add-at
     add-total
     sub-left
+    next-few-requires
     least-requires
     sub-walk-few
     part-walk-few-start
