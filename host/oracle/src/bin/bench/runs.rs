@@ -81,7 +81,7 @@ impl Case {
         }
     }
 
-    /// The same by the original, whose opening looks at the first count alone.
+    /// The same by the original, opening included: it takes all counts apart when it opens.
     fn original(&mut self, call: &str) {
         let mut reader = oracle::reader(COLUMN, self.rows, self.block.clone());
         match call {
