@@ -135,21 +135,21 @@ module _ {counts : List ℕ} {stop n : ℕ} {s : Spot} {few at left : ℕ} (w : 
 
   -- a run before `stop`, by its count
   module _ (l : 0 < left) (some : few ≡ 0 → ⊥) {c : Count} (e : c ≡ countAt counts at) where
-    before-stop : stop - few < stop
-    before-stop = omega (arith, w .within)
+    lies-before : stop - few < stop
+    lies-before = omega (arith, w .within)
 
     pub few-bad : c ≡ Bad → Goes counts stop s n StuckOnTheWay
-    few-bad b = passing-wrong (w .passing) l (rest-bad stop counts (spot (stop - few) at 0) before-stop e b) refl before-stop
+    few-bad b = passing-wrong (w .passing) l (rest-bad stop counts (spot (stop - few) at 0) lies-before e b) refl lies-before
 
     module _ {v len : ℕ} (b : c ≡ Number v len) where
       pub few-zero : v ≡ 0 → Goes counts stop s n StuckOnTheWay
-      few-zero z = passing-wrong (w .passing) l (rest-zero stop counts (spot (stop - few) at 0) before-stop e b z) refl before-stop
+      few-zero z = passing-wrong (w .passing) l (rest-zero stop counts (spot (stop - few) at 0) lies-before e b z) refl lies-before
 
       module _ (z : v ≡ 0 → ⊥) where
         free : Rows v len ≡ restOf (here stop counts (spot (stop - few) at 0)) 0
         free =
             let m : v - 0 ≡ v = omega arith in
-            ap (λ (k : ℕ). Rows k len) (sym m) ∙ rest-rows stop counts (spot (stop - few) at 0) before-stop e b z (omega arith)
+            ap (λ (k : ℕ). Rows k len) (sym m) ∙ rest-rows stop counts (spot (stop - few) at 0) lies-before e b z (omega arith)
 
         pub few-found : Found stop counts (spot (stop - few) at 0) v len
         few-found = passing-found (w .passing) l free refl

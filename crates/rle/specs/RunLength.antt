@@ -64,7 +64,7 @@ unfoldable pub plus : ℕ → Walked → Walked
 plus v (Total t) = Total (v + t)
 plus v (Refused e) = Refused e
 
--- a cut varint, or a fifth byte above 0x0F, is 12; a count of 0 is 13; else the walk goes on behind it
+-- a bad varint is 12: cut, longer than needed, or with a fifth byte above 0x0F; a count of 0 is 13; else the walk goes on behind it
 unfoldable pub walkedPast : Count → (ℕ → Walked) → Walked
 walkedPast Bad rest = Refused VARINT
 walkedPast (Number v len) rest = cond (eqb v 0) (Refused COUNTS) (plus v (rest len))
