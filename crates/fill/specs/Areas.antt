@@ -27,7 +27,7 @@ areas vs fs es bs = record { values = vs; flags = fs; ends = es; bytes = bs }
 unfoldable pub isBytes : Kind → Bool
 isBytes (Fixed p) = false
 isBytes (Char w) = true
-isBytes Blob = true
+isBytes (Blob text) = true
 
 -- lent room too short for the whole answer, or a total above 4,294,967,295
 unfoldable pub short : Kind → List Row → Areas → Bool

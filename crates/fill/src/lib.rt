@@ -56,6 +56,14 @@ pub fn write_rows(
             }
             fixed::give_items(p, parts, from, block, n, values, flags)
         }
-        Kind::Char(_) | Kind::Blob => texts::give_texts(parts, from, block, n, flags, ends, bytes),
+        Kind::Char(_) | Kind::Blob(_) => texts::give_texts(
+            parts,
+            from,
+            block,
+            n,
+            flags,
+            ends,
+            bytes,
+        ),
     }
 }

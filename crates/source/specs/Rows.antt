@@ -143,4 +143,4 @@ pub record Writes (good : ℕ → Bool) (steps : Steps) (n room : ℕ) : Type 0 
 unfoldable pub Texts : Kind → Type 0
 Texts (Fixed p) = ⊥
 Texts (Char w) = Unit
-Texts Blob = Unit
+Texts (Blob text) = Unit

@@ -66,7 +66,7 @@ nullText = 110 ∷ (117 ∷ (108 ∷ (108 ∷ [])))
 unfoldable pub intText : Kind → ℤ → List ℕ
 intText (Fixed p) v = valueText p v
 intText (Char w) v = numberText v
-intText Blob v = numberText v
+intText (Blob text) v = numberText v
 
 unfoldable pub rowText : Kind → Row → List ℕ
 rowText k null = nullText
