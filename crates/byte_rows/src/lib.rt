@@ -1,4 +1,4 @@
-// The second pass over the rows of char and blob: their flags, their ends and their bytes, run by run. The first pass has found them
+// The second pass over the rows of char, blob and string: their flags, their ends and their bytes, run by run. The first pass has found them
 // there and good.
 use encode::Kind;
 use plain::Range;
@@ -115,7 +115,7 @@ fn put_blobs(
     }
 }
 
-// Writes the flags, the ends and the bytes of the next `n` rows of char or blob.
+// Writes the flags, the ends and the bytes of the next `n` rows of char, blob or string.
 pub fn put_texts(
     s: Source,
     counts: &[u8],

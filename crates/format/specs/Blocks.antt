@@ -48,7 +48,7 @@ cut (Char w) (int v) = int v
 cut (Char w) (bytes bs) = bytes (beforeNul bs)
 cut (Blob text) r = r
 
--- null becomes the default, empty for char and blob
+-- null becomes the default, empty for char, blob and string
 unfoldable pub filled : Kind → Row → Row
 filled (Fixed p) r = int (intIn r)
 filled (Char w) r = bytes (bytesIn r)

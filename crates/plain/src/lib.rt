@@ -202,7 +202,7 @@ pub fn values(p: Primitive, s: &[u8], from: usize, n: usize, out: &mut [i64])
     }
 }
 
-// ---- char and blob
+// ---- char, blob and string
 
 // Where blob item `i` starts in the data, and where it ends.
 pub fn start_at(s: &[u8], i: usize) -> usize

@@ -62,7 +62,7 @@ bytesText (b ∷ bs) = hexOf (b ∷ bs)
 abbrev pub nullText : List ℕ
 nullText = 110 ∷ (117 ∷ (108 ∷ (108 ∷ [])))
 
--- char and blob have no integers; the text of one is said for them too, so that every row has a text
+-- char, blob and string have no integers; the text of one is said for them too, so that every row has a text
 unfoldable pub intText : Kind → ℤ → List ℕ
 intText (Fixed p) v = valueText p v
 intText (Char w) v = numberText v
