@@ -30,7 +30,8 @@ extern "C" {
 enum {
     IDZ_DONE = 0,
     IDZ_COLUMN = 1,      /* kind, encoding or width is not one of the pairs */
-    IDZ_ITEM = 2,        /* an appended item doesn't fit its kind (building) */
+    IDZ_ITEM = 2,        /* an appended item doesn't fit its kind: an integer outside it, a char item longer than the width, or a char
+                            or string item that isn't text */
     IDZ_LIMIT = 3,       /* a limit is passed: rows 281,474,976,710,655; stored items or runs 1,048,576; entries 65,536;
                             block 16,777,216 bytes */
     IDZ_ROOM = 4,        /* lent room is too short for the whole answer */
@@ -42,12 +43,14 @@ enum {
     IDZ_LENGTH = 11,     /* a length is wrong */
     IDZ_VARINT = 12,     /* a run count is cut, too large or longer than needed */
     IDZ_COUNTS = 13,     /* a run count is 0, or the counts don't fill their section */
-    IDZ_ENDS = 14,       /* a blob end falls or passes the data */
+    IDZ_ENDS = 14,       /* the end of a blob or string falls or passes the data */
     IDZ_KEY = 15,        /* a dictionary key names no entry */
-    IDZ_SUM = 16         /* the run counts don't add up to the rows */
+    IDZ_SUM = 16,        /* the run counts don't add up to the rows */
+    IDZ_TEXT = 17        /* a stored char or string item isn't text (opening) */
 };
 
-/* Kinds. Width is 1 to 255 for char and 0 for every other kind. */
+/* Kinds. Width is 1 to 255 for char and 0 for every other kind. The items of char and string are text, which is well-formed UTF-8 (the
+ * Unicode Standard, table 3-7): a stored char item up to its first NUL, all others whole. */
 enum {
     IDZ_BOOL = 0,
     IDZ_I16 = 1,
@@ -58,8 +61,9 @@ enum {
     IDZ_TIMESTAMP_TZ = 6,
     IDZ_INTERVAL = 7, /* one i64: months times 2^32 plus days modulo 2^32 */
     IDZ_CHAR = 8,
-    IDZ_BLOB = 9,
-    IDZ_F64 = 11 /* one i64: the bits of a double, which rows are compared by */
+    IDZ_BLOB = 9,    /* any bytes */
+    IDZ_STRING = 10, /* text, laid out as blob: what is said of blob below goes for string too */
+    IDZ_F64 = 11     /* one i64: the bits of a double, which rows are compared by */
 };
 
 /* Encodings. */
@@ -130,12 +134,13 @@ typedef struct {
     idz_builder builder; /* as it was given */
 } idz_asked;
 
-/* Opens a block of `rows` rows: 0 exactly for a sound block, else 1, 3 or 10 to 16. The block isn't kept: lend it to each call. */
+/* Opens a block of `rows` rows: 0 exactly for a sound block, else 1, 3 or 10 to 17. The block isn't kept: lend it to each call. */
 idz_opening idz_open(size_t kind, size_t encoding, size_t width, size_t rows, const uint8_t *block, size_t block_len);
 
 /* Gives min(size, rows remaining) rows; at the end that is 0 rows. Fixed kinds write one i64 a row to `values`; char and blob write
  * their bytes to `bytes`, one after another, and to `ends` where each row's bytes end. `flags` gets 1 a row, 0 for a null, whose
- * value is 0 or no bytes. Areas that the kind doesn't use may have length 0. Refuses 6, 9, 4 in this order. */
+ * value is 0 or no bytes. Areas that the kind doesn't use may have length 0. Refuses 6, 9, 4 in this order. Text isn't tested again: of a
+ * block that changed since it was opened, bytes that aren't text any more are handed out as they are. */
 idz_given idz_batch(idz_reader reader, const uint8_t *block, size_t block_len, size_t size, int64_t *values, size_t values_len,
                     uint8_t *flags, size_t flags_len, uint32_t *ends, size_t ends_len, uint8_t *bytes, size_t bytes_len);
 
@@ -151,7 +156,7 @@ idz_creation idz_create(size_t kind, size_t encoding, size_t width, size_t targe
 /* Appends one row: `present` is 0 for a null; a fixed kind takes `value`, char and blob take `item`. Needs, this row counted in: the item
  * bytes stored; a slot of `ends` a blob item; a byte of `flags` per eight items (encodings 1 and 3); a slot of `counts` a run; a
  * slot of `keys` a key run; a byte of `lens` a char item. Refuses 9, 2, 3, 4 in this order; 4 exactly when an area is below its
- * need. */
+ * need. Of char and string `item` has to be text, whole; items that the areas hold aren't tested again. */
 idz_appended idz_append(idz_builder builder, uint8_t *items, size_t items_len, uint32_t *ends, size_t ends_len, uint8_t *flags,
                         size_t flags_len, uint32_t *counts, size_t counts_len, int32_t *keys, size_t keys_len, uint8_t *lens,
                         size_t lens_len, uint8_t present, int64_t value, const uint8_t *item, size_t item_len);

@@ -15,7 +15,7 @@ import random
 import sys
 
 import model
-from model import BLOB, CHAR, F64, FIXED, KINDS, Reader, Refused
+from model import BLOB, BY_ENDS, CHAR, F64, FIXED, KINDS, STRING, Reader, Refused
 
 SEED = 1
 ROOM = 2300000  # bytes of the program's room for a block
@@ -244,8 +244,13 @@ def any_item(pick, kind, width):
     if kind in FIXED:
         return pick(limits(kind))
     if kind == CHAR:
-        return pick([b"", b"a", b"a\0", b"x\0y", b"\0y", b"\xff" * width, bytes(range(1, width + 1)), b"ab"])[:width]
-    return pick([b"", b"", b"a", b"ab", b"\0", b"a\0b", b"\xff\xfe", bytes(range(7))])
+        return text_within(pick([b"", b"a", b"a\0", b"x\0y", b"\0y", "\u20ac".encode(), bytes(range(1, width + 1)), b"ab"]), width)
+    return pick([b"", b"", b"a", b"ab", b"\0", b"a\0b", b"\xff\xfe" if kind == BLOB else "\u00fe".encode(), bytes(range(7))])
+
+
+def text_within(text, width):
+    """As many characters of the text as a width holds."""
+    return max((text[:n] for n in range(width + 1) if model.is_text(text[:n])), key=len)
 
 
 def all_limits(kind, encoding):
@@ -331,14 +336,14 @@ def all_pairs(s):
                     s.skip(s.random.randint(1, 2))
                     s.give_short(2)
                 else:
-                    s.wander(6)
+                    s.wander(3)
                     s.skip(s.left())
                     s.wander(2)
 
 
 def wide_chars(s):
     for encoding in range(5):
-        rows = [b"\xff" * 255, b"\xff" * 254, None, b"", b"\0" + b"q" * 254]
+        rows = [b"q" * 253 + "\u07ff".encode(), b"q" * 254, None, b"", b"\0" + b"q" * 254]
         s.load(model.build(CHAR, encoding, 255, rows))
         s.open(CHAR, encoding, 255, 5, expect=0)
         s.batch(1, 0, 1, 1, 254, expect=4)
@@ -359,7 +364,7 @@ def no_rows(s):
             s.batch(0, 0, 0, 0, 0, expect=6)
             s.batch(1, 0, 0, 0, 0, expect=0)
             s.batch(2, 1, 1, 1, 1, expect=0)
-            s.open(kind, encoding, width, 1, expect=(10 if kind == BLOB else 11, 11, 16, 16, 16)[encoding])
+            s.open(kind, encoding, width, 1, expect=(10 if kind in BY_ENDS else 11, 11, 16, 16, 16)[encoding])
     s.load(dictionary(b"", 2, blobs(b"a", b"b")))
     s.open(BLOB, 4, 0, 0, expect=0)
     s.batch(1, 0, 0, 0, 0, expect=0)
@@ -418,6 +423,110 @@ def rates(s):
         s.give_short(2)
 
 
+GOOD = [bytes.fromhex(x) for x in (
+    "", "00", "7F", "C280", "DFBF", "E0A080", "E0BFBF", "E18080", "ECBFBF", "ED8080", "ED9FBF", "EE8080", "EFBFBF", "EFBBBF", "F0908080",
+    "F0BFBFBF", "F1808080", "F3BFBFBF", "F4808080", "F48FBFBF")]
+BAD = [bytes.fromhex(x) for x in (
+    "80", "BF", "C080", "C1BF", "C2", "C27F", "C2C0", "DF", "E09FBF", "E0A0", "E0A07F", "E180", "EDA080", "EDBFBF", "EE80", "F08FBFBF",
+    "F09080", "F1", "F18080", "F4908080", "F4BFBFBF", "F5808080", "F8", "FE", "FF", "C3A9C3", "E282AC80")]
+
+
+def decodes(data):
+    """Whether Python takes the bytes for text."""
+    try:
+        return data.decode("utf-8", "strict").encode() == data
+    except UnicodeDecodeError:
+        return False
+
+
+def bad_items(kind, encoding, before, bad, behind):
+    """A block of three items of which the one in the middle isn't text, and its rows: under a null in encodings 1 and 3, an entry that
+    no key names in 4."""
+    inner = model.plain(kind, len(bad), (before, bad, behind))
+    if encoding < 2:
+        return bits(inner, "05") if encoding else inner, 3
+    if encoding < 4:
+        return runs("020102", bits(inner, "05") if encoding == 3 else inner), 5
+    return dictionary(runs("0201", keys(3, 1)), 3, inner), 3
+
+
+def texts(s):
+    """Char and string items that are text and that aren't, alone and wherever an item can stand; what is refused before them; and
+    that reading hands out what they have become."""
+    assert all(map(decodes, GOOD)) and not any(map(decodes, BAD))
+    assert all(model.is_text(x) == decodes(x) for x in (*GOOD, *BAD, *(bytes((a, b)) for a in range(256) for b in range(256))))
+    for item in (*GOOD, *BAD):
+        number = 17 if item in BAD else 0
+        s.load(le4(len(item)) + item)
+        s.open(STRING, 0, 0, 1, expect=number)
+        if number:
+            s.open(BLOB, 0, 0, 1, expect=0)
+        if item:
+            s.load(item)
+            s.open(CHAR, 0, len(item), 1, expect=number)
+    # char up to its first NUL, and each item by itself
+    for number, width, n, text in ((17, 1, 1, "C3"), (0, 2, 1, "C3A9"), (17, 1, 2, "C3A9"), (17, 3, 1, "C300A9"), (17, 3, 1, "61E282"),
+                                   (0, 3, 1, "4100FF"), (0, 3, 2, "00FFFF 61C3A9"), (17, 2, 2, "61C3 A900"), (11, 3, 1, "C3A9")):
+        s.load(bytes.fromhex(text))
+        s.open(CHAR, 0, width, n, expect=number)
+        s.give(MOST, expect=0 if number == 0 else 9)
+    # string whole, NULs too, and each item by itself
+    for number, n, text in ((17, 2, "01000000 02000000 C3A9"), (14, 2, "02000000 01000000 C3A9"), (11, 2, "01000000 01000000 C3A9"),
+                            (14, 1, "03000000 C3FF"), (10, 2, "01000000 FF"), (17, 1, "03000000 4100FF"), (0, 2, "04000000 06000000 4100C3A9 0000")):
+        s.load(bytes.fromhex(text))
+        s.open(STRING, 0, 0, n, expect=number)
+        if number == 17:
+            s.open(BLOB, 0, 0, n, expect=0)
+        s.give(MOST, expect=0 if number in (0, 17) else 9)
+    # wherever an item can stand; with rows or bytes that don't fit another number wins
+    for encoding in range(5):
+        for kind, width, bad in ((CHAR, 2, b"a\xc3"), (STRING, 0, b"\xed\xa0\x80")):
+            block, n = bad_items(kind, encoding, b"", bad, b"\xc3\xa9")
+            s.load(block)
+            s.open(kind, encoding, width, n, expect=17)
+            for rows, length in ((n + 1, s.len), (n - 1, s.len), (n, s.len - 1)):
+                s.lend(length)
+                assert not s.open(kind, encoding, width, rows)
+                assert int(s.answers[-1].split()[1], 16) in (10, 11, 14, 16)
+                s.lend(len(block))
+            if kind == STRING:
+                s.open(BLOB, encoding, 0, n, expect=0)
+                s.give(MOST, expect=0)
+                s.change(block.index(b"\xed"), 0xee)
+                s.open(STRING, encoding, 0, n, expect=0)
+                s.give(MOST, expect=0)
+    # a dictionary without rows; an unknown key, which wins
+    for key_block, n, number in ((b"", 0, 17), (runs("01", keys(0)), 1, 17), (runs("01", keys(2)), 1, 15)):
+        s.load(dictionary(key_block, 1, ends(1) + b"\xff"))
+        s.open(STRING, 4, 0, n, expect=number)
+        s.open(BLOB, 4, 0, n, expect=15 if number == 15 else 0)
+        s.load(dictionary(key_block, 1, b"\xff"))
+        s.open(CHAR, 4, 1, n, expect=number)
+    s.load(bits(b"\xff", "00"))
+    s.open(CHAR, 1, 1, 1, expect=17)
+    # each place of items of several lengths
+    for kind, width, item, n in ((CHAR, 5, b"abcde", 5), (STRING, 0, b"abcdefghijklmnopq", 1)):
+        s.load(model.plain(kind, width, [item] * n))
+        for at in range(s.len - len(item) * n, s.len):
+            kept = s.room[at]
+            s.change(at, 0xc3)
+            s.open(kind, 0, width, n, expect=17)
+            s.change(at, kept)
+        s.open(kind, 0, width, n, expect=0)
+    # what has become no text since is handed out, and opened no more
+    for encoding in range(5):
+        for kind, width in ((CHAR, 2), (STRING, 0)):
+            rows = [b"ab", None, "\u00e9".encode(), "\u00e9".encode()]
+            block = model.build(kind, encoding, width, rows)
+            s.load(block)
+            s.open(kind, encoding, width, 4, expect=0)
+            s.skip(1, expect=0)
+            s.change(block.index(b"\xc3"), 0xff)
+            s.give(MOST, expect=0)
+            s.remaining(expect=0)
+            s.open(kind, encoding, width, 4, expect=17)
+
+
 def refusals(s):
     """A block for each refusal of each encoding, and for the order of the rules."""
     block = s.load
@@ -428,12 +537,12 @@ def refusals(s):
     # 1: names, as they come
     block(b"")
     for e in range(5):
-        for kind, width in ((10, 0), (12, 0), (256, 0), (MOST, 0), (0, 1), (2, 256), (3, 8), (7, MOST), (CHAR, 0), (CHAR, 256),
-                            (CHAR, MOST), (BLOB, 1), (BLOB, 256), (F64, 1), (F64, 8)):
+        for kind, width in ((12, 0), (256, 0), (MOST, 0), (0, 1), (2, 256), (3, 8), (7, MOST), (CHAR, 0), (CHAR, 256),
+                            (CHAR, MOST), (BLOB, 1), (BLOB, 256), (STRING, 1), (STRING, 256), (F64, 1), (F64, 8)):
             refuse(1, kind, e, width, 0)
     for e in (5, 256, MOST):
         refuse(1, 2, e, 0, 0)
-    refuse(1, 10, 0, 0, MOST)
+    refuse(1, 12, 0, 0, MOST)
     # 3: rows, before anything of the block is looked at
     for e in range(5):
         for n in (2**48, MOST):
@@ -468,18 +577,13 @@ def refusals(s):
              (14, 1, "01000000"), (10, 3, "0100000002000000 6162"))
     for expect, n, text in plain:
         b = bytes.fromhex(text)
-        block(b)
-        refuse(expect, BLOB, 0, 0, n)
-        # the same as the items of a nullable block, of runs and of a dictionary
-        block(bits(b, "FF" * ((n + 7) // 8)))
-        refuse(expect, BLOB, 1, 0, n)
-        if n:
-            block(runs("01" * n, b))
-            refuse(expect, BLOB, 2, 0, n)
-            block(runs("01" * n, bits(b, "00")))
-            refuse(expect, BLOB, 3, 0, n)
-        block(dictionary(runs("02", keys(n)), n, b))
-        refuse(expect, BLOB, 4, 0, 2)
+        # also as the items of a nullable block, of runs and of a dictionary
+        for e, b in enumerate((b, bits(b, "FF" * ((n + 7) // 8)), runs("01" * n, b), runs("01" * n, bits(b, "00")),
+                               dictionary(runs("02", keys(n)), n, b))):
+            if n or e not in (2, 3):
+                block(b)
+                for kind in BY_ENDS:
+                    refuse(expect, kind, e, 0, 2 if e == 4 else n)
 
     # nullable: 10, then 11, then 10, then the items
     for expect, n, text in ((10, 0, ""), (10, 0, "00"), (10, 0, "000000"), (0, 0, "00000000"), (11, 0, "01000000"),
@@ -574,15 +678,15 @@ def cuts(s):
     """A sound block at every shorter length, opened, and read by a reader that says so too. The bytes that were cut off are
     still there, past what is lent."""
     for kind, encoding, width, rows in ((BLOB, 0, 0, [b"ab", b""]), (CHAR, 1, 1, [b"a", None]), (BLOB, 1, 0, [None, b"b"]),
-                                        (I16, 2, 0, [7, 7, 8]), (BLOB, 2, 0, [b"ab", b"ab"]), (BLOB, 3, 0, [b"c", None]),
-                                        (I16, 3, 0, [1]), (I16, 4, 0, [None, 5]), (BLOB, 4, 0, [b"a", None, b"bc"])):
+                                        (I16, 2, 0, [7, 7, 8]), (STRING, 2, 0, [b"ab", b"ab"]), (BLOB, 3, 0, [b"c", None]),
+                                        (I16, 3, 0, [1]), (I16, 4, 0, [None, 5]), (STRING, 4, 0, [b"a", None, b"bc"])):
         block = model.build(kind, encoding, width, rows)
         s.load(block)
         s.open(kind, encoding, width, len(rows), expect=0)
         sound = s.reader
         for length in range(len(block)):
             s.lend(length)
-            if kind == BLOB:
+            if kind in BY_ENDS:
                 s.set("len", length)
                 s.batch(MOST, 0, 3, 3, 4)
                 s.again()
@@ -630,7 +734,7 @@ def spellings(s):
 
 def longer_than_needed(s):
     """A count with a last byte of 0 behind another, as each of three: 12 at opening, and 9 in a reader when its bytes become such."""
-    for spelled in ("8000", "8100", "FF00", "808000", "8080808000", "FFFFFFFF00"):
+    for spelled in ("8000", "8100", "808000", "FFFFFFFF00"):
         needed = spelled[:-2] + "01"
         size, count = len(spelled) // 2, model.count_at(bytes.fromhex(needed), 0)[0]
         for encoding in (2, 3, 4):
@@ -835,7 +939,7 @@ NUMBERS = [7, 7, None, None, -1, -1, -1, 0]
 
 def bases():
     for encoding in range(5):
-        for kind, width, rows in ((I16, 0, NUMBERS), (CHAR, 2, TEXTS), (BLOB, 0, TEXTS)):
+        for kind, width, rows in ((I16, 0, NUMBERS), (CHAR, 2, TEXTS), (BY_ENDS[encoding % 2], 0, TEXTS)):
             yield kind, encoding, width, rows
 
 
@@ -843,7 +947,7 @@ def small_calls(s):
     s.remaining()
     s.skip(1)
     kind = s.reader.kind
-    s.batch(2, 2, 2, 2, 4) if kind in (CHAR, BLOB) else s.batch(2, 2, 2, 0, 0)
+    s.batch(2, 2, 2, 2, 4) if kind in (CHAR, *BY_ENDS) else s.batch(2, 2, 2, 0, 0)
 
 
 def values_of(field, r):
@@ -874,7 +978,7 @@ def looked_at(field, encoding):
 
 def forged(s):
     """Each field of the reader set to other numbers, in the middle of a block: all of them for one kind in each encoding, a
-    third for the others, and the largest where the encoding doesn't look at the field."""
+    sixth for the others, and the largest where the encoding doesn't look at the field."""
     for base, (kind, encoding, width, rows) in enumerate(bases()):
         s.load(model.build(kind, encoding, width, rows))
         s.open(kind, encoding, width, len(rows), expect=0)
@@ -885,10 +989,10 @@ def forged(s):
             if not looked_at(field, encoding):
                 values = values[-1:]
             elif base % 3 != encoding % 3:
-                values = values[::3]
+                values = values[::6]
             for value in values:
                 s.set(field, value)
-                if s.reader.kind == 10:
+                if s.reader.kind == 12:
                     s.batch(0, 0, 0, 0, 0, expect=6)
                 small_calls(s)
                 changed = [f for f in Reader.FIELDS if getattr(s.reader, f) != getattr(middle, f)]
@@ -948,7 +1052,7 @@ def forged_by_chance(s):
     """Several fields at once, and a byte of the block."""
     pick, chance = s.random.choice, s.random.random
     all_bases = list(bases())
-    for _ in range(30):
+    for _ in range(15):
         kind, encoding, width, rows = pick(all_bases)
         block = model.build(kind, encoding, width, rows)
         s.load(block)
@@ -966,12 +1070,13 @@ def damaged(s):
     """Memory changed after opening, for each rule that a batch or a skip looks at again."""
     rows = [b"ab"] * 3 + [None] * 3 + [b"c"] * 3
     for encoding in (2, 3, 4):
-        block = model.build(BLOB, encoding, 0, rows)
+        kind = BY_ENDS[encoding % 2]
+        block = model.build(kind, encoding, 0, rows)
         counts = 20 if encoding == 4 else 8
         s.load(block)
         for at, byte in ((0, 0), (0, 1), (0, 2), (0, 4), (0, 0x80), (0, 0x83), (1, 0), (1, 1), (1, 0x80), (2, 0), (2, 0x80),
                          (2, 1)):
-            s.open(BLOB, encoding, 0, 9, expect=0)
+            s.open(kind, encoding, 0, 9, expect=0)
             s.skip(2)
             s.change(counts + at, byte)
             s.remaining(expect=0)
@@ -982,28 +1087,29 @@ def damaged(s):
             s.skip(s.left())
             s.change(counts + at, 3)
         # a run that is used up is left, whatever its item or key is
-        s.open(BLOB, encoding, 0, 9, expect=0)
+        s.open(kind, encoding, 0, 9, expect=0)
         s.skip(5)
         s.change(counts + 1, 2)
         s.change(counts + 3 + (4 if encoding == 4 else 0), 0x7f)
         s.give(1, expect=0)
         s.load(block)
         # the head isn't read again
-        s.open(BLOB, encoding, 0, 9, expect=0)
+        s.open(kind, encoding, 0, 9, expect=0)
         for at in range(counts):
             s.change(at, 0xff)
         s.give(9, expect=0)
     # ends: of rows given, under nulls too, and not of rows passed over
     rows = [b"ab", None, b"c", b"de"]
     for encoding in range(5):
-        block = model.build(BLOB, encoding, 0, rows)
+        kind = BY_ENDS[encoding % 2]
+        block = model.build(kind, encoding, 0, rows)
         first = {0: 0, 1: 0, 2: 12, 3: 12, 4: len(block) - 17}[encoding]
         items = 3 if encoding == 4 else 4
         s.load(block)
         for item in range(items):
-            for byte in (0, 1, 3, 6):
+            for byte in (0, 3, 6):
                 kept = s.room[first + 4 * item]
-                s.open(BLOB, encoding, 0, 4, expect=0)
+                s.open(kind, encoding, 0, 4, expect=0)
                 s.change(first + 4 * item, byte)
                 s.batch(1, 0, 1, 1, 6)
                 s.give(1)
@@ -1011,14 +1117,14 @@ def damaged(s):
                 s.skip(2)
                 s.batch(4, 0, 4, 4, 12)
                 s.change(first + 4 * item, kept)
-        s.open(BLOB, encoding, 0, 4, expect=0)
+        s.open(kind, encoding, 0, 4, expect=0)
         s.change(first + 3, 1)
         s.give(1)
         s.skip(1)
         s.give(MOST)
     # keys: of two entries, the third, null and others
     texts = [b"ab", None, b"c", b"c"]
-    for kind, width, rows in ((BLOB, 0, texts), (CHAR, 2, texts), (I16, 0, [5, None, 6, 6])):
+    for kind, width, rows in ((STRING, 0, texts), (CHAR, 2, texts), (I16, 0, [5, None, 6, 6])):
         s.load(model.build(kind, 4, width, rows))
         for at, byte in ((23, 0), (23, 3), (23, 9), (26, 0), (27, 1), (31, 3), (31, 1), (34, 1)):
             s.open(kind, 4, width, 4, expect=0)
@@ -1060,8 +1166,9 @@ def nine_first(s):
                 s.change(second_key, 3)
                 s.batch(1, 0, 0, 0, 0, expect=9)
     for encoding in (0, 1):
-        s.load(model.build(BLOB, encoding, 0, [b"ab", b"c", b"d"]))
-        s.open(BLOB, encoding, 0, 3, expect=0)
+        kind = BY_ENDS[encoding]
+        s.load(model.build(kind, encoding, 0, [b"ab", b"c", b"d"]))
+        s.open(kind, encoding, 0, 3, expect=0)
         s.change(8, 2)
         s.batch(3, 0, 0, 0, 0, expect=9)
         s.batch(2, 0, 0, 0, 0, expect=4)
@@ -1072,7 +1179,7 @@ def damaged_by_chance(s):
     """A byte of a block, a cut or a longer end: before opening, or after it."""
     pick, chance = s.random.choice, s.random.random
     for _ in range(30):
-        kind = pick((0, 1, 2, 4, 7, F64, CHAR, BLOB, BLOB))
+        kind = pick((0, 1, 2, 4, 7, F64, CHAR, CHAR, BLOB, STRING, STRING))
         encoding = pick((0, 1, 2, 2, 3, 3, 4, 4))
         width = 2 if kind == CHAR else 0
         rows = any_rows(s, kind, width, s.random.randint(1, 6))
@@ -1093,8 +1200,8 @@ def damaged_by_chance(s):
             s.wander(4)
 
 
-SECTIONS = (samples, all_pairs, wide_chars, no_rows, rates, refusals, cuts, spellings, longer_than_needed, sound_all_the_same, run_two, many_bytes,
-            most_rows, most_entries, most_items, forged, forged_heads, forged_lengths, damaged, nine_first, forged_by_chance,
+SECTIONS = (samples, all_pairs, wide_chars, no_rows, rates, texts, refusals, cuts, spellings, longer_than_needed, sound_all_the_same, run_two,
+            many_bytes, most_rows, most_entries, most_items, forged, forged_heads, forged_lengths, damaged, nine_first, forged_by_chance,
             damaged_by_chance)
 
 

@@ -4,7 +4,7 @@ It says of every call what it answers and what the lent areas then hold, for any
 FIELDS; the areas are a dictionary of AREAS, of each of which the first cells are lent, as many as `lent` says. tools/building.py
 makes the stored answers of the program `try_building` with it.
 """
-from model import BLOB, CHAR, FIXED, MOST_RUN, NULL_KEY, spell
+from model import BY_ENDS, CHAR, FIXED, MOST_RUN, NULL_KEY, OF_TEXT, spell
 import model
 
 MOST_ROWS, MOST_ITEMS, MOST_ENTRIES, MOST_BYTES = 2**48 - 1, 2**20, 2**16, 2**24
@@ -38,7 +38,7 @@ def stored(r):
 
 
 def plain_bytes(r):
-    return r["bytes"] + (4 * stored(r) if r["kind"] == BLOB else 0)
+    return r["bytes"] + (4 * stored(r) if r["kind"] in BY_ENDS else 0)
 
 
 def finished_bytes(r):
@@ -63,7 +63,7 @@ def record_wrong(r):
     if not known(r):
         return True
     n = stored(r)
-    if r["kind"] == BLOB:
+    if r["kind"] in BY_ENDS:
         if n == 0 and r["bytes"] != 0:
             return True
     elif r["bytes"] != n * width_of(r):
@@ -73,7 +73,7 @@ def record_wrong(r):
 
 def needs(r):
     e, n = r["encoding"], stored(r)
-    return {"items": r["bytes"], "ends": n if r["kind"] == BLOB else 0, "flags": (n + 7) // 8 if e in (1, 3) else 0,
+    return {"items": r["bytes"], "ends": n if r["kind"] in BY_ENDS else 0, "flags": (n + 7) // 8 if e in (1, 3) else 0,
             "counts": r["runs"] if e >= 2 else 0, "keys": r["runs"] if e == 4 else 0, "lens": n if r["kind"] == CHAR else 0}
 
 
@@ -111,10 +111,10 @@ def entry_of(r, a, row):
 
 
 def fits(r, row):
-    if row is None or r["kind"] == BLOB:
+    if row is None:
         return True
-    if r["kind"] == CHAR:
-        return len(row) <= r["width"]
+    if r["kind"] not in FIXED:
+        return (r["kind"] != CHAR or len(row) <= r["width"]) and (r["kind"] not in OF_TEXT or model.is_text(row))
     if r["kind"] == 0:
         return row in (0, 1)
     half = 2 ** (8 * width_of(r) - 1)
@@ -180,7 +180,7 @@ def append(r, a, lent, present, value, data, find=entry_of):
         return 4, r
     if new:
         a["items"][r["bytes"]:r["bytes"] + len(item)] = item
-        if r["kind"] == BLOB:
+        if r["kind"] in BY_ENDS:
             a["ends"][i] = s["bytes"]
         if r["kind"] == CHAR:
             a["lens"][i] = len(row or b"")
@@ -200,7 +200,7 @@ def append(r, a, lent, present, value, data, find=entry_of):
 def block(r, a):
     e, n, runs = r["encoding"], stored(r), r["runs"]
     inner = bytes(a["items"][:r["bytes"]])
-    if r["kind"] == BLOB:
+    if r["kind"] in BY_ENDS:
         inner = b"".join(x.to_bytes(4, "little") for x in a["ends"][:n]) + inner
     if e in (1, 3):
         size = (n + 7) // 8
@@ -242,7 +242,7 @@ def estimate(r):
 
 def with_next(r, present, size):
     """What should_finish holds against the target."""
-    more = (size + 4 if present else 4) if r["kind"] == BLOB else width_of(r)
+    more = (size + 4 if present else 4) if r["kind"] in BY_ENDS else width_of(r)
     return plain_bytes(r) + more + (1 if r["encoding"] in (1, 3) else 0)
 
 

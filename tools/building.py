@@ -21,9 +21,9 @@ import sys
 
 import builder
 import model
-from answers import I16, I32, MINUS_ZERO, MOST, ONE, RATES, ZERO, limits, number
+from answers import BAD, GOOD, I16, I32, MINUS_ZERO, MOST, ONE, RATES, ZERO, limits, number
 from builder import AREAS, FIELDS, MOST_BYTES, MOST_ENTRIES, MOST_ITEMS, MOST_ROWS, Nine
-from model import BLOB, CHAR, F64, FIXED, KINDS, MOST_RUN, NULL_KEY
+from model import BLOB, BY_ENDS, CHAR, F64, FIXED, KINDS, MOST_RUN, NULL_KEY, STRING, Refused
 
 SEED = 1
 INPUT = 300000  # bytes of the program's room for the commands
@@ -114,14 +114,14 @@ class Script:
         refusal = self.play(present, value, data)
         return refusal, int(refusal == 0)
 
-    def many(self, times, presence=1, start=0, step=0, period=0, source=0, size=0, data=b"", expect=0):
+    def many(self, times, presence=1, start=0, step=0, period=0, source=0, size=0, data=b"", expect=0, find=None):
         """Rows until one is refused."""
         size = len(data) or size
         self.command(2, times, presence, start % 2**64, step % 2**64, period, source, size)
         self.commands += data
         if source == 1:
             data = bytes(self.a["room"][:size])
-        find = self.finder() if times > 1000 and self.r["encoding"] == 4 else builder.entry_of
+        find = find or (self.finder() if times > 1000 and self.r["encoding"] == 4 else builder.entry_of)
         value, since, refusal = start, 0, 0
         for done in range(times):
             signed = (value + 2**63) % 2**64 - 2**63
@@ -315,7 +315,8 @@ def some_rows(kind, encoding, width):
         values = limits(kind)
         v = [values[(5 * encoding + i) % len(values)] for i in range(4)]
     else:
-        v = [x[:width] if kind == CHAR else x for x in ((b"ab\0", b"a", b"\0", b"a\0"), (b"", b"xyzw", b"x", b"\xff\xfe"),
+        two = b"\xff\xfe" if kind == BLOB else b"\xc3\xbe"
+        v = [x[:width] if kind == CHAR else x for x in ((b"ab\0", b"a", b"\0", b"a\0"), (b"", b"xyzw", b"x", two),
                                                         (b"a", b"a\0", b"", b"ab"), (b"q", b"", b"\0", b"\0\0"),
                                                         (b"a", b"", b"a\0", b"abc"))[encoding]]
     return [v[0], v[0], None, v[1], v[1], v[2], v[0], v[3]]
@@ -329,7 +330,9 @@ def any_row(s, kind, width, wild=False):
         if wild and chance() < .15:
             return pick((2, -1, 2**15, -2**15 - 1, 2**31, -2**31 - 1, 2**40, 2**63 - 1, -2**63))
         return pick(limits(kind)[:5])
-    row = pick((b"", b"\0", b"a", b"a\0", b"ab", b"b", b"abc"))
+    row = pick((b"", b"\0", b"a", b"a\0", b"ab", b"b", b"abc", b"\xc3\xa9"))
+    if wild and chance() < .1:
+        row = pick((b"\xff", b"a\xc3", b"\xa9", b"a\0\xff"))
     return row if kind != CHAR or wild and chance() < .2 else row[:width]
 
 
@@ -343,7 +346,7 @@ def bases():
     """A pair for each shape and encoding."""
     for kind, width in ((0, 0), (I16, 0), (CHAR, 2), (BLOB, 0)):
         for encoding in range(5):
-            yield kind, encoding, width
+            yield STRING if kind == BLOB and encoding % 2 else kind, encoding, width
 
 
 # ---- the cases
@@ -476,25 +479,26 @@ def borders(s):
     for width, encoding in itertools.product((1, 2, 254, 255), range(5)):
         s.lend(items=3 * width, ends=0, flags=1, counts=3, keys=3, lens=3)
         s.create(CHAR, encoding, width)
-        s.append(b"\xff" * width, value=-1)
+        full = b"q" * (width % 2) + b"\xc3\xa9" * (width // 2)
+        s.append(full, value=-1)
         if width < 9:
-            s.append(b"\xff" * (width + 1), expect=2)
-            s.append(b"\xff" * width + b"\0", expect=2)
+            s.append(full + b"q", expect=2)
+            s.append(full + b"\0", expect=2)
             s.append(None, data=b"\xee" * (width + 9))
             s.append(b"", value=2**40)
             s.append(b"z" * 255, expect=2)
         else:
             s.view(0)
-            s.append(b"\xff" * (width + 1), expect=2)
+            s.append(full + b"q", expect=2)
             s.append(None, data=b"\xee" * 256)
             s.append(b"", value=2**40)
             s.sums()
             s.finish()
             s.sums()
             s.view(1)
-    for encoding in range(5):
+    for kind, encoding in itertools.product(BY_ENDS, range(5)):
         s.roomy(items=6)
-        s.create(BLOB, encoding)
+        s.create(kind, encoding)
         s.append(b"abcdef", value=2**40)
         s.append(b"g", expect=4)
         s.append(b"", value=-1)
@@ -505,7 +509,7 @@ def borders(s):
 def as_given(s):
     """Rows are equal as they were given: what is padded, cut or default isn't."""
     texts = [b"a", b"a\0", b"a\0\0", b"a", b"", b"\0", None, b"", None, None, b"", b"", b"\0"]
-    for kind, width in ((CHAR, 3), (CHAR, 4), (BLOB, 0)):
+    for kind, width in ((CHAR, 3), (CHAR, 4), (BLOB, 0), (STRING, 0)):
         for encoding in (2, 3, 4):
             s.lend(items=60, ends=14, flags=2, counts=14, keys=14, lens=14)
             s.create(kind, encoding, width)
@@ -568,7 +572,7 @@ def as_given(s):
 
 def last_counts(s):
     """The last count is the record's: it grows, fills a run, and is written whatever the slot held."""
-    for kind, width, row, other in ((I32, 0, -7, 7), (CHAR, 2, b"a", b"b"), (BLOB, 0, b"", b"c")):
+    for kind, width, row, other in ((I32, 0, -7, 7), (CHAR, 2, b"a", b"b"), (STRING, 0, b"", b"c")):
         for encoding in (2, 3, 4):
             s.roomy(items=24)
             s.create(kind, encoding, width)
@@ -670,9 +674,16 @@ def most_entries(s):
     s.lend(**{x: CELLS[x] for x in AREAS})
     for kind, width, size, source in ((I32, 0, 0, 0), (CHAR, 3, 3, 2), (BLOB, 0, 3, 2)):
         s.create(kind, 4, width)
-        s.many(70000, 1, 0, 1, 0, source, size, expect=3)
+        if kind == CHAR:
+            # text, of bytes below 128
+            find = s.finder()
+            for high in range(512):
+                s.many(128, 1, (high >> 7 << 16) + (high % 128 << 8), 1, 0, source, size, find=find)
+            s.append(b"\0\0\4", expect=3)
+        else:
+            s.many(70000, 1, 0, 1, 0, source, size, expect=3)
         assert s.r["entries"] == s.r["rows"] == MOST_ENTRIES
-        old, new = (65535, 65536) if kind == I32 else (b"\xff\xff\0", b"\0\0\1")
+        old, new = {I32: (65535, 65536), CHAR: (b"\x7f\x7f\3", b"\0\0\4"), BLOB: (b"\xff\xff\0", b"\0\0\1")}[kind]
         first = 0 if kind == I32 else b"\0\0\0"
         s.append(new, expect=3)
         s.append(old)
@@ -770,7 +781,7 @@ def most_bytes(s):
     # an item that alone is longer than what is left
     for encoding in (2, 3, 4):
         s.roomy(items=30)
-        s.create(BLOB, encoding)
+        s.create(STRING, encoding)
         s.append(b"a")
         after = builder.grown(s.r, b"b" * 29, 29, True, False)
         s.set(counts=s.r["counts"] + MOST_BYTES - builder.finished_bytes(after))
@@ -815,7 +826,7 @@ def large_records(s):
             sizes(0, **{items: n}, bytes=n * width)
             sizes(9, **{items: n + 1}, bytes=(n + 1) * width)
         # blobs: ends and data
-        s.create(BLOB, encoding, 0, 2**24)
+        s.create(BY_ENDS[encoding % 2], encoding, 0, 2**24)
         for n in (1, 7, 8, 9, MOST_ITEMS):
             flags = (n + 7) // 8 + 4 if bitmap else 0
             sizes(0, **{items: n}, bytes=MOST_BYTES - head - flags - 4 * n)
@@ -869,8 +880,8 @@ def targets(s):
             s.set(target=target)
             s.should(True, size)
             s.should(False, size)
-    for encoding in range(5):
-        s.create(BLOB, encoding)
+    for kind, encoding in itertools.product(BY_ENDS, range(5)):
+        s.create(kind, encoding)
         s.roomy()
         s.should(True, MOST, full=0)
         for row in (b"", None, b""):
@@ -880,7 +891,7 @@ def targets(s):
         s.should(False, 0, full=1)
     # a blob's next item that passes 2^64 with what there is
     for encoding in range(4):
-        s.build(BLOB, encoding, 0, [b"abc", b"d"])
+        s.build(BY_ENDS[encoding % 2], encoding, 0, [b"abc", b"d"])
         have = builder.plain_bytes(s.r) + (1 if encoding in (1, 3) else 0)
         for size in (MOST - have - 4, MOST - have - 3, MOST - have - 5, MOST):
             s.set(target=MOST)
@@ -893,12 +904,12 @@ def targets(s):
 
 def creation(s):
     """Names, as they come."""
-    for kind in (0, 7, CHAR, BLOB, 10, F64, 12, 255, 256 + 2, 2**32 + 2, MOST):
+    for kind in (0, 7, CHAR, BLOB, STRING, F64, 12, 255, 256 + 2, 2**32 + 2, MOST):
         for encoding in (0, 4, 5, 256, 2**32 + 1, MOST):
             for width in (0, 1, 255, 256, 257, MOST):
-                known = encoding < 5 and (kind in (0, 7, BLOB, F64) and width == 0 or kind == CHAR and 1 <= width <= 255)
+                known = encoding < 5 and (kind in (0, 7, BLOB, STRING, F64) and width == 0 or kind == CHAR and 1 <= width <= 255)
                 s.create(kind, encoding, width, MOST if known else 7, expect=0 if known else 1)
-    s.create(10, 0, expect=1)
+    s.create(12, 0, expect=1)
     s.roomy()
     s.append(None, expect=9)
     s.finish(9, expect=9)
@@ -966,9 +977,10 @@ def as_held(s, *places):
 def damaged(s):
     """Areas changed between calls: the fields that an append reads, and those that it doesn't."""
     texts = [b"ab", b"c", b"", b"de"]
-    for kind, width in ((CHAR, 2), (BLOB, 0)):
+    for form, width in ((CHAR, 2), (BLOB, 0)):
         for encoding in range(5):
             s.roomy(items=16, counts=8, keys=8, flags=1)
+            kind = STRING if form == BLOB and encoding % 2 == 0 else form
             s.create(kind, encoding, width)
             for row in texts:
                 s.append(row)
@@ -986,7 +998,7 @@ def damaged(s):
                         long = kind == CHAR and row is not None and len(row) > 2
                         if kind == CHAR and encoding in (2, 3):
                             expect = 9 if place == 3 and value > 2 else 2 if long else 0
-                        if kind == BLOB and (encoding in (2, 3) and place == 3 or encoding == 4 and row and len(row) == 6):
+                        if kind in BY_ENDS and (encoding in (2, 3) and place == 3 or encoding == 4 and row and len(row) == 6):
                             expect = 9
                         if encoding < 2 or encoding == 4 and row is None:
                             expect = 2 if long else 0
@@ -1073,6 +1085,87 @@ def order(s):
     s.append(2)
 
 
+def opens_as(s, block, rows):
+    """The number that a finished block opens as."""
+    try:
+        model.open_block(s.r["kind"], s.r["encoding"], s.r["width"], rows, block)
+        return 0
+    except Refused as refused:
+        return refused.number
+
+
+def texts(s):
+    """Char and string take text alone: a row is looked at whole, a null's bytes aren't, nor those beside an integer, nor the items that
+    are held. A row that isn't text is 2, whatever it would join or find."""
+    for kind, width in ((CHAR, 4), (STRING, 0), (BLOB, 0)):
+        s.lend(items=4 * len(GOOD), ends=len(GOOD), flags=0, counts=0, keys=0, lens=len(GOOD))
+        s.create(kind, 0, width)
+        for row in GOOD:
+            s.append(row)
+        s.lend(items=200, ends=99, lens=99)
+        s.view(0)
+        for row in BAD:
+            s.append(row, expect=0 if kind == BLOB else 2)
+        s.view(1)
+        assert opens_as(s, s.finish(), len(s.rows)) == 0
+    # behind a NUL, cut by the end, and longer than the width as well
+    for encoding, (kind, width) in itertools.product(range(5), ((CHAR, 4), (STRING, 0))):
+        s.roomy()
+        s.create(kind, encoding, width)
+        s.append(b"\xe2\x82\xac")
+        for row in (b"A\0\xff", b"\xc3\0\xa9", b"\xe2\x82", b"\xff", b"abc\xc3", b"abc\xc3\xa9\xff"):
+            s.append(row, expect=2)
+        s.append(None, data=b"\xff")
+        s.append(b"\0\xc3\xa9\0", value=-1)
+        assert opens_as(s, s.finish(), 3) == 0
+        # items that are held and aren't text: equal rows are 2, others are taken, and the block opens as 17
+        kept = s.keep()
+        s.cells("items", 0, 0xff)
+        last = 0 if encoding == 4 else builder.stored(s.r) - 1
+        s.cells("items", last * 4 if kind == CHAR else s.a["ends"][last - 1] if last else 0, 0xff)
+        s.append(builder.held(s.r, s.a, last), expect=2)
+        s.append(b"\xc3\xa9")
+        s.append(None)
+        assert opens_as(s, s.finish(), 5) == 17
+        s.back(kept)
+    for encoding in (0, 3, 4):
+        s.roomy()
+        s.create(I16, encoding)
+        s.append(5, data=b"\xff")
+        s.append(None, data=b"\xff")
+        s.finish()
+    # 9 comes before it, 3 and 4 behind it
+    for encoding, (kind, width) in itertools.product((2, 3, 4), ((CHAR, 2), (STRING, 0))):
+        s.roomy(items=8)
+        s.create(kind, encoding, width)
+        s.append(b"a")
+        s.append(b"b")
+        s.lend_need()
+        s.append(b"\xff", expect=2)
+        s.append(b"c", expect=4)
+        s.set(counts=MOST_BYTES - (builder.finished_bytes(s.r) - s.r["counts"]))
+        s.append(b"\xff", expect=2)
+        s.append(b"c", expect=3)
+        s.cells("lens" if kind == CHAR else "ends", 1, 3)
+        s.append(b"\xff", expect=9)
+    # long ones
+    s.view(0)
+    s.cells("room", 0, ord("t"), count=70000)
+    s.lend(items=1000000, ends=20, flags=0, counts=0, keys=0, lens=0)
+    s.create(STRING, 0)
+    s.many(1, source=1, size=70000)
+    for place in (0, 1, 7, 8, 255, 256, 40001, 69998):
+        s.cells("room", place, 0xc3)
+        s.many(1, source=1, size=70000, expect=2)
+        s.many(1, source=1, size=place + 1, expect=2)
+        s.cells("room", place + 1, 0xa9)
+        s.many(1, source=1, size=70000)
+        s.cells("room", place, ord("t"))
+        s.cells("room", place + 1, ord("t"))
+    s.sums()
+    s.view(1)
+
+
 def long_items(s):
     """Ends above 255, 65,535 and 2^20: blobs out of the room."""
     s.view(0)
@@ -1106,6 +1199,7 @@ def lend_loose(s):
 def by_chance(s):
     """Random lists in areas that now and then are short, with the other calls between; then forged states of them."""
     pick, chance = s.random.choice, s.random.random
+    s.roomy()
     for turn in range(120):
         kind, encoding = KINDS[turn % len(KINDS)], turn // 2 % 5
         width = pick((1, 2, 3)) if kind == CHAR else 0
@@ -1160,7 +1254,7 @@ def forge(s):
 
 
 SECTIONS = (samples, counts, all_pairs, many_flags, borders, as_given, last_counts, most_rows, most_items, most_entries, most_bytes,
-            large_records, targets, creation, forged, damaged, order, long_items, by_chance)
+            large_records, targets, creation, forged, damaged, order, texts, long_items, by_chance)
 
 
 def main():

@@ -10,12 +10,14 @@ another seed the random inputs are others, and the two files of `try_listing` go
 Not tried here, for the size of its answer: the listing of 131 MB.
 """
 import collections
+import itertools
 import pathlib
 import random
 import sys
 
 import model
-from model import BLOB, CHAR, F64, FIXED, KINDS, Refused, float_bits
+from answers import BAD, GOOD, bad_items, text_within
+from model import BLOB, CHAR, F64, FIXED, KINDS, OF_TEXT, STRING, Refused, float_bits
 
 SEED = 1
 INTERVAL = 7
@@ -121,9 +123,11 @@ SAMPLES = {
     "run_length_nullable_interval": of_rows(INTERVAL, 3, 0, [(14 << 32) + 2**32 - 3] * 2 + [None] + [(-1 << 32) + 30]),
     "run_length_f64": of_rows(F64, 2, 0, [float_bits(x) for x in (0.0375, 0.0375, 0.0, -0.0, 0.041, 0.041)]),
     "dictionary_blob": of_rows(BLOB, 4, 0, [b"ab", None, b"ab", b"c"]),
+    "dictionary_string": of_rows(STRING, 4, 0, [x and x.encode() for x in ("\u00e9t\u00e9", "", None, "\u20ac 5", "\u00e9t\u00e9", "\U0001f600")]),
     "run_length_many_bools": descriptor(0, 2, 0, 1005) + bytes.fromhex("02000000 03000000 EC07 01 01 00"),
     "refused_unknown_key": of_rows(BLOB, 4, 0, [b"ab", None, b"ab", b"c"]).replace(
         bytes.fromhex("02000080 02000000"), bytes.fromhex("03000080 02000000")),
+    "refused_no_text": descriptor(CHAR, 0, 3, 2) + "\u20ac".encode() + "a\u20ac".encode()[:3],
 }
 
 EDGES = {
@@ -136,8 +140,9 @@ EDGES = {
     6: [0, 1000000000000000, -9, 2**63 - 1, -2**63],
     7: [(m << 32) + d % 2**32 for m in (0, 1, -1, 2**31 - 1, -2**31) for d in (0, 1, -1, 2**31 - 1, -2**31)],
     F64: [*map(float_bits, (0.0, -0.0, 1.0, 0.0375, float("inf"), float("-inf"), 5e-324)), 0x7FF8000000000000, 0x7FF0000000000001, -1],
-    CHAR: [b"", b"a", b"\xff\xfe", bytes(range(1, 17)), b"x\0y"],
+    CHAR: [b"", b"a", b"\xc3\xbf", bytes(range(1, 17)), b"x\0y"],
     BLOB: [b"", b"\0", b"\x0f\xf0", bytes(range(256)), b"x\0y"],
+    STRING: [b"", b"\0", b"\x0f\xc2\x80", bytes(range(128)), b"x\0y"],
 }
 
 
@@ -181,7 +186,8 @@ def limits(s):
     s.list(descriptor(0, 0, 0, 65529, zero=1) + bytes(65529), 3)  # 3 comes before the zero bit
     s.list(descriptor(1, 1, 0, 3, zero=1) + C[8:], 1)
     s.list(descriptor(15, 7, 255, 2**48 - 1, zero=1), 1)
-    for kind in (10, 12, 13, 14):
+    s.list(descriptor(STRING, 0, 0, 0), 0)
+    for kind in (12, 13, 14):
         s.list(descriptor(kind, 0, 0, 0), 1)
     s.list(descriptor(15, 0, 0, 0), 1)
     for encoding in (5, 6, 7):
@@ -189,12 +195,15 @@ def limits(s):
     for width in (1, 128, 255):
         s.list(descriptor(1, 0, width, 0), 1)
         s.list(descriptor(BLOB, 0, width, 0), 1)
+        s.list(descriptor(STRING, 0, width, 0), 1)
         s.list(descriptor(F64, 0, width, 0), 1)
     s.list(descriptor(CHAR, 0, 0, 0), 1)
     s.list(descriptor(0, 0, 0, 2**20 + 1), 3)
     s.list(descriptor(0, 0, 0, 2**47), 3)
     s.list(descriptor(CHAR, 0, 3, 1) + b"abc", 0)
-    s.list(descriptor(CHAR, 0, 255, 1) + bytes(range(1, 256)), 0)
+    s.list(descriptor(CHAR, 0, 255, 1) + bytes(range(1, 128)) + b"\xc3\xa9" * 64, 0)
+    s.list(descriptor(CHAR, 0, 255, 1) + bytes(range(1, 256)), 17)
+    assert descriptor(STRING, 0, 0, 0)[:1] == b"\xa0" and descriptor(STRING, 4, 0, 0)[:1] == b"\xa8"
     assert descriptor(CHAR, 0, 3, 0)[:2] == b"\x80\x06" and descriptor(CHAR, 0, 255, 0)[:2] == b"\x81\xfe"
 
 
@@ -216,6 +225,27 @@ def refusals(s):
     s.list(descriptor(2, 2, 0, 1) + bytes.fromhex("01001000 00000000"), 3)
     s.list(SAMPLES["refused_unknown_key"], 15)
     s.list(descriptor(BLOB, 4, 0, 0) + bytes(11), 10)
+    s.list(SAMPLES["refused_no_text"], 17)
+    # text and no text, alone; wherever an item can stand; and rules that come before it
+    for item in (*GOOD, *BAD):
+        number = 17 if item in BAD else 0
+        s.list(descriptor(STRING, 0, 0, 1) + len(item).to_bytes(4, "little") + item, number)
+        if item:
+            s.list(descriptor(CHAR, 0, len(item), 1) + item, number)
+    for kind, encoding in itertools.product((CHAR, STRING, BLOB), range(5)):
+        width, bad = (2, b"\xc3") if kind == CHAR else (0, b"\xc3\xc3")
+        block, rows = bad_items(kind, encoding, b"a", bad.ljust(width, b"\0"), b"b")
+        s.list(descriptor(kind, encoding, width, rows) + block, 0 if kind == BLOB else 17)
+    s.list(descriptor(CHAR, 0, 3, 1) + bytes.fromhex("4100FF"), 0)
+    s.list(descriptor(CHAR, 0, 3, 1) + bytes.fromhex("C300A9"), 17)
+    s.list(descriptor(CHAR, 1, 1, 1) + bytes.fromhex("FF 00 01000000"), 17)
+    for number, end, last in ((17, 1, 2), (14, 2, 1), (11, 1, 1)):
+        s.list(descriptor(STRING, 0, 0, 2) + end.to_bytes(4, "little") + last.to_bytes(4, "little") + b"\xc3\xa9", number)
+    no_rows = bytes.fromhex("0000000000000000 00000001 01000000 FF")
+    one_row = bytes.fromhex("000000000000000D 00000001 01000000 01000000 01 02000080 01000000 FF")
+    for block, rows, number in ((no_rows, 0, 17), (one_row, 1, 15)):
+        s.list(descriptor(STRING, 4, 0, rows) + block, number)
+        s.list(descriptor(BLOB, 4, 0, rows) + block, 0 if number == 17 else number)
 
 
 def texts(s):
@@ -267,6 +297,10 @@ def changed(s):
     s.change(blobs, 4, 0, 4, ["rows 3", "0 61", "refused 9"])  # an end past the data
     s.change(blobs, 4, 0, 0, ["rows 3", "0 61", "refused 9"])  # an end that falls
     s.change(blobs, 4, 2, 4, ["rows 1", "refused 9"])
+    strings = of_rows(STRING, 0, 0, [b"a", b"bc"])
+    s.change(strings, 4, 0, 4, ["rows 2", "0 61", "refused 9"])
+    s.change(strings, 9, 0, 0xff, ["rows 2", "0 61", "1 ff63", "end"])  # what is no text any more is listed
+    s.change(of_rows(CHAR, 4, 2, [b"ab", None]), 31, 0, 0xff, ["rows 2", "0 61ff", "1 null", "end"])
     s.change(C, 6, 0, 2, ["rows 3", "0 null", "1 0", "2 null", "end"])  # other flags are other rows
     s.change(C[:-1], NOWHERE, 0, 0, ["refused 9"])  # not opened
 
@@ -278,6 +312,9 @@ def some_row(r, kind):
             return r.randrange(2)
         n = r.randrange(1, 8 * size)
         return r.randrange(-2**n, 2**n) if n < 8 * size - 1 else r.choice([-2**(8 * size - 1), 2**(8 * size - 1) - 1])
+    if kind in OF_TEXT:
+        text = "".join(chr(r.choice([r.randrange(128), r.randrange(0x80, 0x800), r.randrange(0xe000, 0x110000)])) for _ in range(3))
+        return text_within(text.encode(), r.randrange(6))
     return bytes(r.randrange(256) for _ in range(r.randrange(6)))
 
 

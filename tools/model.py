@@ -7,8 +7,10 @@ import struct
 
 FIXED = {0: (1, "little"), 1: (2, "little"), 2: (4, "little"), 3: (8, "little"),
          4: (4, "big"), 5: (8, "big"), 6: (8, "big"), 7: (8, "big"), 11: (8, "little")}
-CHAR, BLOB, F64 = 8, 9, 11  # a row of F64 is the integer of 64 bits that a float's bits are
-KINDS = sorted((*FIXED, CHAR, BLOB))
+CHAR, BLOB, STRING, F64 = 8, 9, 10, 11  # a row of F64 is the integer of 64 bits that a float's bits are
+BY_ENDS = (BLOB, STRING)  # laid out alike, with ends
+OF_TEXT = (CHAR, STRING)  # their items have to be text
+KINDS = sorted((*FIXED, CHAR, *BY_ENDS))
 NULL_KEY = -2**31
 MOST_RUN = 2**32 - 1
 
@@ -24,6 +26,34 @@ def known(kind, encoding, width):
 def float_bits(x):
     """The row of F64 that a float is."""
     return int.from_bytes(struct.pack("<d", x), "little", signed=True)
+
+
+# ---- text
+
+TAIL = range(0x80, 0xC0)
+WELL_FORMED = (  # the Unicode Standard, table 3-7: the byte sequences of a character, a row each
+    (range(0x00, 0x80),),
+    (range(0xC2, 0xE0), TAIL),
+    (range(0xE0, 0xE1), range(0xA0, 0xC0), TAIL),
+    (range(0xE1, 0xED), TAIL, TAIL),
+    (range(0xED, 0xEE), range(0x80, 0xA0), TAIL),
+    (range(0xEE, 0xF0), TAIL, TAIL),
+    (range(0xF0, 0xF1), range(0x90, 0xC0), TAIL, TAIL),
+    (range(0xF1, 0xF4), TAIL, TAIL, TAIL),
+    (range(0xF4, 0xF5), range(0x80, 0x90), TAIL, TAIL),
+)
+
+
+def is_text(data):
+    """Whether the bytes are characters one after another, to the last."""
+    at = 0
+    while at < len(data):
+        sizes = [len(row) for row in WELL_FORMED
+                 if at + len(row) <= len(data) and all(data[at + i] in allowed for i, allowed in enumerate(row))]
+        if not sizes:
+            return False
+        at += sizes[0]
+    return True
 
 
 # ---- building
@@ -48,7 +78,7 @@ def item(kind, width, row):
 def plain(kind, width, rows):
     items = [item(kind, width, r) for r in rows]
     data = b"".join(items)
-    if kind != BLOB:
+    if kind not in BY_ENDS:
         return data
     ends, at = b"", 0
     for i in items:
@@ -122,7 +152,14 @@ def size_of(kind, width):
 
 
 def check_plain(kind, width, n, b):
-    if kind != BLOB:
+    check_lengths(kind, width, n, b)
+    # every stored item, of char as it would be read
+    if kind in OF_TEXT and not all(is_text(plain_row(kind, width, n, b, i)) for i in range(n)):
+        raise Refused(17)
+
+
+def check_lengths(kind, width, n, b):
+    if kind not in BY_ENDS:
         if len(b) != n * size_of(kind, width):
             raise Refused(11)
         return
@@ -247,7 +284,7 @@ def open_block(kind, encoding, width, n, b):
 # ---- reading
 
 def least(kind, width, n):
-    return 4 * n if kind == BLOB else n * size_of(kind, width)
+    return 4 * n if kind in BY_ENDS else n * size_of(kind, width)
 
 
 def contradicts(r):

@@ -91,6 +91,25 @@ static void floats(void) {
     expect(idz_create(IDZ_F64, IDZ_PLAIN, 8, 0).number == IDZ_COLUMN, "f64 of a width is 1");
 }
 
+/* string, plain: C3A9, a null, "A". Text goes in, and what is none is refused. */
+static void strings(void) {
+    static const uint8_t block[] = {2, 0, 0, 0, 2, 0, 0, 0, 3, 0, 0, 0, 0xC3, 0xA9, 'A'};
+    idz_builder builder = idz_create(IDZ_STRING, IDZ_PLAIN, 0, 100).builder;
+    builder = append(builder, 1, 0, "\xC3\xA9", 64).builder;
+    idz_appended appended = append(builder, 1, 0, "\xC3", 64);
+    expect(appended.number == IDZ_ITEM && same(appended.builder, builder), "a string that is cut is 2");
+    builder = append(builder, 0, 0, "\xC3", 64).builder;
+    builder = append(builder, 1, 0, "A", 64).builder;
+    idz_finished finished = finish(builder, 64);
+    expect(finished.number == IDZ_DONE && finished.len == sizeof block && memcmp(out, block, sizeof block) == 0, "strings as blobs are");
+    idz_builder chars = idz_create(IDZ_CHAR, IDZ_PLAIN, 2, 100).builder;
+    expect(append(chars, 1, 0, "\xFF", 64).number == IDZ_ITEM, "a char that isn't text is 2");
+    expect(append(chars, 1, 0, "\xC3\xA9", 64).number == IDZ_DONE, "one that is isn't");
+    idz_builder blobs = idz_create(IDZ_BLOB, IDZ_PLAIN, 0, 100).builder;
+    expect(append(blobs, 1, 0, "\xFF", 64).number == IDZ_DONE, "nor is a blob, which takes any bytes");
+    expect(idz_create(IDZ_STRING, IDZ_PLAIN, 1, 0).number == IDZ_COLUMN, "string of a width is 1");
+}
+
 static void refused(void) {
     idz_creation creation = idz_create(IDZ_CHAR, IDZ_PLAIN, 0, 0);
     expect(creation.number == IDZ_COLUMN, "char of 0 is 1");
@@ -115,6 +134,7 @@ int main(void) {
     run_length();
     dictionary();
     floats();
+    strings();
     refused();
     printf("%d passed, %d failed\n", passed, failed);
     return failed > 0;

@@ -161,10 +161,7 @@ static void some(int kind, int encoding, size_t width) {
 }
 
 int main(void) {
-    static const int kinds[] = {IDZ_BOOL,         IDZ_I16,      IDZ_I32,  IDZ_I64,  IDZ_DATE, IDZ_TIMESTAMP,
-                                IDZ_TIMESTAMP_TZ, IDZ_INTERVAL, IDZ_CHAR, IDZ_BLOB, IDZ_F64};
-    for (size_t i = 0; i < sizeof kinds / sizeof kinds[0]; i++) {
-        int kind = kinds[i];
+    for (int kind = IDZ_BOOL; kind <= IDZ_F64; kind++) {
         for (int encoding = IDZ_PLAIN; encoding <= IDZ_DICTIONARY; encoding++) {
             size_t width = kind == IDZ_CHAR ? 2 : 0;
             nothing(kind, encoding, width);

@@ -92,11 +92,34 @@ static void longer_than_needed(void) {
     expect(idz_open(IDZ_BOOL, IDZ_RUN_LENGTH, 0, 1, block, sizeof block).number == IDZ_VARINT, "and 12 at opening");
 }
 
+/* Char is text up to its first NUL, string is text as a whole, and blob is any bytes. */
+static void texts(void) {
+    static const uint8_t behind_nul[] = {'A', 0, 0xFF}, cut_by_nul[] = {0xC3, 0, 0xA9};
+    idz_opening opening = idz_open(IDZ_CHAR, IDZ_PLAIN, 3, 1, behind_nul, 3);
+    idz_given given = batch(opening.reader, behind_nul, 3, 1);
+    expect(opening.number == IDZ_DONE && given.bytes == 1 && bytes[0] == 'A', "what stands behind a NUL is no part of a char");
+    expect(idz_open(IDZ_CHAR, IDZ_PLAIN, 3, 1, cut_by_nul, 3).number == IDZ_TEXT, "a char that a NUL cuts is 17");
+    expect(idz_open(IDZ_CHAR, IDZ_PLAIN, 2, 1, cut_by_nul, 3).number == IDZ_LENGTH, "and 11 with another width");
+
+    uint8_t strings[] = {2, 0, 0, 0, 3, 0, 0, 0, 0xC3, 0xA9, 'A'};
+    opening = idz_open(IDZ_STRING, IDZ_PLAIN, 0, 2, strings, sizeof strings);
+    given = batch(opening.reader, strings, sizeof strings, 2);
+    expect(opening.number == IDZ_DONE && given.rows == 2 && given.bytes == 3 && memcmp(bytes, "\xC3\xA9" "A", 3) == 0, "strings come back");
+    expect(ends[0] == 2 && ends[1] == 3, "with their ends");
+    strings[0] = 1;
+    expect(idz_open(IDZ_STRING, IDZ_PLAIN, 0, 2, strings, sizeof strings).number == IDZ_TEXT, "a character in two items is 17");
+    expect(idz_open(IDZ_BLOB, IDZ_PLAIN, 0, 2, strings, sizeof strings).number == IDZ_DONE, "but not as blob");
+    given = batch(opening.reader, strings, sizeof strings, 1);
+    expect(given.number == IDZ_DONE && given.bytes == 1 && bytes[0] == 0xC3, "reading hands out what is no text any more");
+    expect(idz_open(IDZ_STRING, IDZ_PLAIN, 1, 0, strings, 0).number == IDZ_COLUMN, "string of a width is 1");
+}
+
 int main(void) {
     fixed();
     variable();
     refused();
     longer_than_needed();
+    texts();
     printf("%d passed, %d failed\n", passed, failed);
     return failed > 0;
 }

@@ -38,7 +38,7 @@ module _ (k : Kind) (n : ℕ) (few : n ≤ MOST_ITEMS) where
   unfolding leastBytes
   least-char w q h = (ap (λ (j : Kind). leastBytes j n) (sym q), product-few n w few h)
 
-  pub least-blob : k ≡ Blob → (4 * n ≡ leastBytes k n) × (4 * n ≤ 255 * MOST_ITEMS)
+  pub least-blob : {text : Bool} → k ≡ Blob text → (4 * n ≡ leastBytes k n) × (4 * n ≤ 255 * MOST_ITEMS)
   unfolding leastBytes
   least-blob q = (ap (λ (j : Kind). leastBytes j n) (sym q), omega arith)
 

@@ -41,7 +41,7 @@ nothing-least : (k : Kind) (b : List ℕ) → leastBytes k 0 ≤ length (partIn 
 unfolding partIn leastBytes
 nothing-least (Fixed p) b = rw zero-mul (omega arith)
 nothing-least (Char w) b = rw zero-mul (omega arith)
-nothing-least Blob b = omega arith
+nothing-least (Blob text) b = omega arith
 
 -- ---- one item that is there
 listed : (n i : ℕ) (t : Bool) → i < n → (ltb i n && t) ≡ t

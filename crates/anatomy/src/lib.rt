@@ -36,7 +36,7 @@ fn least_bytes(kind: Kind, n: usize) -> usize
     match kind {
         Kind::Fixed(p) => n * p.width(),
         Kind::Char(w) => n * (w as usize),
-        Kind::Blob => 4 * n,
+        Kind::Blob(_) => 4 * n,
     }
 }
 

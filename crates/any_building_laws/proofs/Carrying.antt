@@ -49,13 +49,13 @@ ends-carried : (k : Kind) (s : List Row) (l m : List ℕ) → take (endSlots k (
 unfolding endSlots
 ends-carried (Fixed p) s l m q h = tt
 ends-carried (Char w) s l m q h = tt
-ends-carried Blob s l m q h = q ∙ h
+ends-carried (Blob text) s l m q h = q ∙ h
 
 lens-carried : (k : Kind) (s : List Row) (l m : List ℕ) → take (lenSlots k (length s)) m ≡ take (lenSlots k (length s)) l → LensHeld k s l → LensHeld k s m
 unfolding lenSlots
 lens-carried (Fixed p) s l m q h = tt
 lens-carried (Char w) s l m q h = q ∙ h
-lens-carried Blob s l m q h = tt
+lens-carried (Blob text) s l m q h = tt
 
 -- ---- the six areas
 module _ (k : Kind) (e : Encoding) (rows : List Row) (c : Counted) (left lent : Lent) (r : Recorded k e rows c) (p : Carries k e c left lent) where
@@ -139,7 +139,7 @@ none-long : (k : Kind) (m n : ℕ) → (endSlots k 0 ≤ m) × (lenSlots k 0 ≤
 unfolding endSlots lenSlots
 none-long (Fixed p) m n = (omega arith, omega arith)
 none-long (Char w) m n = (omega arith, omega arith)
-none-long Blob m n = (omega arith, omega arith)
+none-long (Blob text) m n = (omega arith, omega arith)
 
 none-needed : (k : Kind) (e : Encoding) (a : Lent) → Enough k e [] a
 unfolding joined bitmapLength

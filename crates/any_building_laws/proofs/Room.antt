@@ -36,7 +36,7 @@ fields-below : (k : Kind) (n : ℕ) (m : Room) → fieldsShort k n m ≡ (ltb (m
 unfolding fieldsShort endSlots lenSlots
 fields-below (Fixed p) n m = rw (none-below (m .ends), none-below (m .lens))
 fields-below (Char w) n m = rw (none-below (m .ends))
-fields-below Blob n m = rw (none-below (m .lens), or-false)
+fields-below (Blob text) n m = rw (none-below (m .lens), or-false)
 
 -- encodings that are not coded by runs have none
 counts-below : (e : Encoding) (rows : List Row) (m : ℕ) → (coded e && ltb m (length (storedRuns e rows))) ≡ ltb m (length (storedRuns e rows))

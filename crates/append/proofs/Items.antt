@@ -17,7 +17,7 @@ use Rattle.append.specs.Asking.{Stores}
 module _ (k : Kind) (f : Bool) (i at : ℕ) (row : Row) (is es fs ls : List ℕ) {passed : Row} (q : passed ≡ row) where
   pub write-asks : {len : ℕ} → Stores k f i at row len is es fs ls
       → (fits k passed ≡ true) × (at + len ≡ at + length (itemOf k passed)) × (at + len ≤ length is) × (at + len < 2 ^ 32)
-      × (k ≡ Blob → i < length es) × ((w : ℕ) → k ≡ Char w → i < length ls) × (f ≡ true → i / 8 < length fs)
+      × ((text : Bool) → k ≡ Blob text → i < length es) × ((w : ℕ) → k ≡ Char w → i < length ls) × (f ≡ true → i / 8 < length fs)
   write-asks s = (
     ap (fits k) q ∙ s .taken,
     ap (λ (n : ℕ). at + n) (s .long ∙ sym (ap (λ (x : Row). length (itemOf k x)) q)),

@@ -63,13 +63,13 @@ bytes-there : (k : Kind) (n len : ℕ) (h : Held) → bytesWrong k n len ≡ fal
 unfolding bytesWrong BytesThere
 bytes-there (Fixed p) n len h w l = let e = eqb-true len (n * widthOf p) (not-false _ w) in omega arith
 bytes-there (Char w) n len h q l = let e = eqb-true len (n * w) (not-false _ q) in omega arith
-bytes-there Blob n len h w l = l
+bytes-there (Blob text) n len h w l = l
 
 fields-there : (k : Kind) (n : ℕ) (a : Lent) → fieldsShort k n (roomOf a) ≡ false → FieldsThere k n (heldIn a)
 unfolding fieldsShort roomOf FieldsThere
 fields-there (Fixed p) n a h = tt
 fields-there (Char w) n a h = ltb-false (length (a .lens)) n h
-fields-there Blob n a h = ltb-false (length (a .ends)) n h
+fields-there (Blob text) n a h = ltb-false (length (a .ends)) n h
 
 module _ (k : Kind) (e : Encoding) (r : Counted) (a : Lent) (h : disagree k e r (roomOf a) ≡ false) where
   pub are-right : recordWrong k e r ≡ false
@@ -127,7 +127,7 @@ unfolding rowOf valueOf presence
 presence-of k false v bs = refl
 presence-of (Fixed p) true v bs = refl
 presence-of (Char w) true v bs = refl
-presence-of Blob true v bs = refl
+presence-of (Blob text) true v bs = refl
 
 pub counted-row :
     (k : Kind) (e : Encoding) (r : Counted) (m : Room) (present : Bool) (v : ℤ) (bs : List ℕ) (item joins : Bool) {len : ℕ}

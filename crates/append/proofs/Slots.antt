@@ -40,9 +40,9 @@ module _ (e : Encoding) (r : Counted) (bit len : ℕ) where
       go RunLengthNullable false h = refl
       go Dictionary joins h = refl
 
-ends-room : (k : Kind) (n : ℕ) (a : Lent) → fieldsShort k (n + 1) (roomOf a) ≡ false → k ≡ Blob → n < length (a .ends)
+ends-room : (k : Kind) (n : ℕ) (a : Lent) → fieldsShort k (n + 1) (roomOf a) ≡ false → (text : Bool) → k ≡ Blob text → n < length (a .ends)
 unfolding fieldsShort roomOf
-ends-room k n a h q = let g = ltb-false (length (a .ends)) (n + 1) (sym (ap (λ (j : Kind). fieldsShort j (n + 1) (roomOf a)) q) ∙ h) in omega arith
+ends-room k n a h text q = let g = ltb-false (length (a .ends)) (n + 1) (sym (ap (λ (j : Kind). fieldsShort j (n + 1) (roomOf a)) q) ∙ h) in omega arith
 
 lens-room : (k : Kind) (n : ℕ) (a : Lent) → fieldsShort k (n + 1) (roomOf a) ≡ false → (w : ℕ) → k ≡ Char w → n < length (a .lens)
 unfolding fieldsShort roomOf

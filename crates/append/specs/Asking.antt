@@ -15,6 +15,6 @@ pub record Stores (k : Kind) (nullable : Bool) (i at : ℕ) (row : Row) (len : �
   pub long : len ≡ length (itemOf k row)
   pub items : at + len ≤ length is
   pub small : at + len < 2 ^ 32
-  pub ends : k ≡ Blob → i < length es
+  pub ends : (text : Bool) → k ≡ Blob text → i < length es
   pub lens : (w : ℕ) → k ≡ Char w → i < length ls
   pub flags : nullable ≡ true → i / 8 < length fs

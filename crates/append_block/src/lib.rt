@@ -70,7 +70,7 @@ fn to_keys(
     next
 }
 
-// Appends one row to a block of an encoding: whether it is present, its integer for a fixed kind, its bytes for char and blob.
+// Appends one row to a block of an encoding: whether it is present, its integer for a fixed kind, its bytes for char, blob and string.
 pub fn to_block(
     c: Counted,
     kind: Kind,

@@ -41,7 +41,7 @@ pub struct Skipped {
     pub reader: Reader,
 }
 
-// What a batch answers: the rows given and, for char and blob, the bytes written.
+// What a batch answers: the rows given and, for char, blob and string, the bytes written.
 #[repr(C)]
 pub struct Given {
     pub number: u8,

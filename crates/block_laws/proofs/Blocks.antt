@@ -36,7 +36,7 @@ no-items : (k : Kind) → length (plainOf k []) ≡ 0
 unfolding plainOf joined endsFrom
 no-items (Fixed p) = refl
 no-items (Char w) = refl
-no-items Blob = refl
+no-items (Blob text) = refl
 
 no-nullable-items : (k : Kind) → length (nullableOf k []) < 2 ^ 32
 unfolding bitmapLength

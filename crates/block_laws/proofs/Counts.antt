@@ -39,7 +39,7 @@ use Rattle.format.proofs.Sound.{column-sound, runs-sound, dictionary-sound}
 abbrev Wide : Kind → Type 0
 Wide (Fixed p) = Unit
 Wide (Char w) = 0 < w
-Wide Blob = Unit
+Wide (Blob text) = Unit
 
 abbrev WideKind : FoundKind → Type 0
 WideKind UnknownKind = Unit
@@ -69,7 +69,8 @@ numbered-wide k =
     (either-kind (eqb k 6) _ _ tt
     (either-kind (eqb k 7) _ _ tt
     (either-kind (eqb k 9) _ _ tt
-    (either-kind (eqb k 11) _ _ tt tt)))))))))
+    (either-kind (eqb k 10) _ _ tt
+    (either-kind (eqb k 11) _ _ tt tt))))))))))
 
 kind-wide : (k w : ℕ) → WideKind (kindOf k w)
 unfolding kindOf
@@ -132,11 +133,11 @@ last-behind before [] ys = refl
 last-behind before (e ∷ es) ys = last-behind e es ys
 
 -- With more items the last end is not smaller, but the data is.
-blob-above : (n d : ℕ) (b : List ℕ) → plainNumber Blob n b ≡ 0 → plainNumber Blob (n + d) b ≡ 0 → d ≡ 0
+blob-above : (text : Bool) (n d : ℕ) (b : List ℕ) → plainNumber (Blob text) n b ≡ 0 → plainNumber (Blob text) (n + d) b ≡ 0 → d ≡ 0
 unfolding endsOf
-blob-above n d b h k =
-    let x = blobs-plain n b h in
-    let y = blobs-plain (n + d) b k in
+blob-above text n d b h k =
+    let x = blobs-plain text n b h in
+    let y = blobs-plain text (n + d) b k in
     let first : List ℕ = endsOf n b in
     let more : List ℕ = map (endAt b) (places d (0 + n)) in
     let e : endsOf (n + d) b ≡ first ++ more = over-add (endAt b) n d 0 in
@@ -145,17 +146,17 @@ blob-above n d b h k =
     let u = last-above (lastOf 0 first) (length b - 4 * (n + d)) more (rising-behind 0 (length b - 4 * (n + d)) first more r) in
     omega (arith, x .0, x .2, y .0, l, u, last-behind 0 first more)
 
-blob-below : (n m : ℕ) (b : List ℕ) → plainNumber Blob n b ≡ 0 → plainNumber Blob m b ≡ 0 → n ≤ m → n ≡ m
-blob-below n m b h k l =
+blob-below : (text : Bool) (n m : ℕ) (b : List ℕ) → plainNumber (Blob text) n b ≡ 0 → plainNumber (Blob text) m b ≡ 0 → n ≤ m → n ≡ m
+blob-below text n m b h k l =
     let e : m ≡ n + (m - n) = omega arith in
-    omega (arith, blob-above n (m - n) b h (ap (λ (j : ℕ). plainNumber Blob j b) (sym e) ∙ k))
+    omega (arith, blob-above text n (m - n) b h (ap (λ (j : ℕ). plainNumber (Blob text) j b) (sym e) ∙ k))
 
 plain-count : (k : Kind) → Wide k → (n m : ℕ) (b : List ℕ) → plainNumber k n b ≡ 0 → plainNumber k m b ≡ 0 → n ≡ m
 plain-count (Fixed p) w n m b h k = same-product n m (widthOf p) (width-some (shapeOf p)) (sym (fixed-plain p n b h) ∙ fixed-plain p m b k)
 plain-count (Char c) w n m b h k = same-product n m c w (sym (char-plain c n b h) ∙ char-plain c m b k)
-plain-count Blob w n m b h k = ⊎-elim
-    (λ (l : n < m). blob-below n m b h k (omega arith))
-    (λ (l : m ≤ n). sym (blob-below m n b k h l))
+plain-count (Blob text) w n m b h k = ⊎-elim
+    (λ (l : n < m). blob-below text n m b h k (omega arith))
+    (λ (l : m ≤ n). sym (blob-below text m n b k h l))
     (lt-or-ge n m)
 
 -- ---- nullable blocks: the trailer is the bitmap's length, and so the plain part is the same

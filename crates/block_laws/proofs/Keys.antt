@@ -40,7 +40,7 @@ plain-there : (k : Kind) (n : ℕ) (b : List ℕ) (i : ℕ) → plainRow k n b i
 unfolding plainRow
 plain-there (Fixed p) n b i e = never cc
 plain-there (Char w) n b i e = never cc
-plain-there Blob n b i e = never cc
+plain-there (Blob text) n b i e = never cc
 
 -- and so an entry that is read as null is none
 entry-null : (k : Kind) (n : ℕ) (b : List ℕ) (s : ℕ) → entryRow k n b s ≡ null → s ≡ 0

@@ -27,9 +27,9 @@ present-kept (Fixed p) (bytes bs) h = let z : _≡_ {A = ℕ} 0 1 = cc in absurd
 present-kept (Char w) null h = refl
 present-kept (Char w) (int v) h = let z : _≡_ {A = ℕ} 0 1 = cc in absurd (omega arith)
 present-kept (Char w) (bytes bs) h = refl
-present-kept Blob null h = refl
-present-kept Blob (int v) h = let z : _≡_ {A = ℕ} 0 1 = cc in absurd (omega arith)
-present-kept Blob (bytes bs) h = refl
+present-kept (Blob text) null h = refl
+present-kept (Blob text) (int v) h = let z : _≡_ {A = ℕ} 0 1 = cc in absurd (omega arith)
+present-kept (Blob text) (bytes bs) h = refl
 
 module _ (k : Kind) (rows : List Row) (f : Each (Fits k) rows) (few : length rows ≤ MOST_ITEMS) (s : length (nullableOf k rows) < 2 ^ 32) where
   small : length (plainOf k rows) < 2 ^ 32

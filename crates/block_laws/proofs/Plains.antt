@@ -2,28 +2,32 @@
 use Prim.Native.Nat.{ℕ, zero, suc, _+_, _*_, _-_, _^_, _≤_, _<_}
 use native.Mathlib.Nat.{mul-comm, zero-add, add-zero, mod-eq-of-lt}
 use native.Mathlib.Omega.{arith}
-use mathlib.Core.Bool.{true, cond}
+use mathlib.Core.Bool.{Bool, true, false, cond}
 use mathlib.Core.List.{List, [], _∷_, _++_, map, append-nil}
 use mathlib.Core.Path.{_≡_, refl, sym, ap, _∙_}
-use lib.Dec.{eqb}
+use lib.Dec.{eqb, leb}
 use lib.ListN.{length, take, drop, getD, replicate, length-append, length-map, List·getD-map}
 use lib.Seq.{take-at, drop-append-add, ext-getD}
 use borrow.Author.Tests.{le-leb}
 use Rattle.encode.specs.Bytes.{little, low-first}
-use Rattle.encode.specs.Kinds.{shapeOf, laidAs, widthOf, bytesAs, valueAs, decoded, encoded}
+use Rattle.encode.specs.Kinds.{shapeOf, laidAs, widthOf, bytesAs, valueAs, decoded, encoded, blob, holdsText}
 use Rattle.encode.specs.declared.Primitive.{Primitive}
 use Rattle.encode.specs.declared.Shape.{Shape}
 use Rattle.encode.specs.declared.Shape.the-variants.{Bool as BoolShape, Low2, Low4, Low8, High4, High8}
 use Rattle.encode.specs.declared.Kind.{Kind}
 use Rattle.encode.specs.declared.Kind.the-variants.{Fixed, Char, Blob}
+use Rattle.encode.proofs.Bools.{clash, both}
 use Rattle.encode.proofs.RoundTrip.{number-bytes, round-trip}
+use Rattle.utf8.specs.Utf8.{isText}
+use Rattle.utf8.proofs.Cutting.{no-text}
 use Rattle.plain.specs.Each.{Each}
 use Rattle.plain.specs.Rows.{Row, null, int, bytes, intIn, bytesIn, fits}
-use Rattle.plain.specs.Plain.{joined, places, itemOf, endsFrom, plainOf, endAt, startAt, endsOf, rising, lastOf, plainNumber, beforeNul}
+use Rattle.plain.specs.Plain.{joined, places, itemOf, endsFrom, plainOf, endAt, startAt, endsOf, rising, lastOf, lengthsNumber, plainNumber, beforeNul}
 use Rattle.plain.specs.Plain.{fixedAt, charAt, blobAt, plainRow}
 use Rattle.plain.proofs.Each.{Wide, all-each, length-joined, fixed-wide, char-wide}
 use Rattle.plain.proofs.Ends.{length-ends, last-same}
-use Rattle.plain.proofs.Numbers.{fixed-number, char-number, length-same}
+use Rattle.plain.proofs.Numbers.{fixed-length, char-length, all-text}
+use Rattle.plain.proofs.TextItems.{text-before-nul, rows-text}
 use Rattle.plain.proofs.Places.{length-over, getD-over}
 use Rattle.format.specs.Blocks.{cut, filled}
 use Rattle.block_laws.proofs.Lists.{each-at, item-joined}
@@ -150,7 +154,7 @@ module _ (xs : List (List ℕ)) (small : length (data′ xs) < 2 ^ 32) where
   length-blobs : length block ≡ 4 * length xs + length (data′ xs)
   length-blobs = length-append (joined (little 4) (endsFrom 0 xs)) (data′ xs) ∙ omega (arith, length-head)
 
-  blobs-open : plainNumber Blob (length xs) block ≡ 0
+  blobs-open : lengthsNumber blob (length xs) block ≡ 0
   blobs-open =
       let r : length block - 4 * length xs ≡ length (data′ xs) = omega (arith, length-blobs) in
       sym (last-same (length xs) block (omega (arith, length-blobs))
@@ -165,36 +169,40 @@ module _ (xs : List (List ℕ)) (small : length (data′ xs) < 2 ^ 32) where
       rw (blob-end i h, blob-start i h, e, drop-append-add (joined (little 4) (endsFrom 0 xs)) (data′ xs) (length (data′ (take i xs))))
       (data-item xs i h)
 
+-- ---- blob and string
+module _ (text : Bool) where
+  blob-data : (rows : List Row) → joined (itemOf (Blob text)) rows ≡ data′ (map (itemOf (Blob text)) rows)
+  unfolding joined
+  blob-data [] = refl
+  blob-data (r ∷ rows) = ap (λ (l : List ℕ). itemOf (Blob text) r ++ l) (blob-data rows)
+
+  blob-block : (rows : List Row) → plainOf (Blob text) rows ≡ blobBlock (map (itemOf (Blob text)) rows)
+  unfolding plainOf
+  blob-block rows = ap (λ (l : List ℕ). joined (little 4) (endsFrom 0 (map (itemOf (Blob text)) rows)) ++ l) (blob-data rows)
+
+  module _ (rows : List Row) (s : length (plainOf (Blob text) rows) < 2 ^ 32) where
+    abbrev items : List (List ℕ)
+    items = map (itemOf (Blob text)) rows
+
+    blob-small : length (data′ items) < 2 ^ 32
+    blob-small =
+        let e : length (plainOf (Blob text) rows) ≡ length (blobBlock items) = ap length (blob-block rows) in
+        omega (arith, length-append (joined (little 4) (endsFrom 0 items)) (data′ items))
+
+    as-blobs : lengthsNumber blob (length rows) (plainOf (Blob text) rows) ≡ 0
+    as-blobs = rw (blob-block rows, ← length-map rows (itemOf (Blob text))) (blobs-open items blob-small)
+
+    blob-lengths : lengthsNumber (Blob text) (length rows) (plainOf (Blob text) rows) ≡ 0
+    unfolding lengthsNumber
+    blob-lengths = as-blobs
+
+    blob-items : (i : ℕ) → i < length rows → blobAt (length rows) (plainOf (Blob text) rows) i ≡ bytesIn (getD rows i null)
+    unfolding itemOf bytesIn
+    blob-items i h =
+        let m : length items ≡ length rows = length-map rows (itemOf (Blob text)) in
+        rw (blob-block rows, ← m) (blob-item items blob-small i (omega arith)) ∙ List·getD-map (itemOf (Blob text)) rows i null
+
 -- ---- every kind
-blob-data : (rows : List Row) → joined (itemOf Blob) rows ≡ data′ (map (itemOf Blob) rows)
-unfolding joined
-blob-data [] = refl
-blob-data (r ∷ rows) = ap (λ (l : List ℕ). itemOf Blob r ++ l) (blob-data rows)
-
-blob-block : (rows : List Row) → plainOf Blob rows ≡ blobBlock (map (itemOf Blob) rows)
-unfolding plainOf
-blob-block rows = ap (λ (l : List ℕ). joined (little 4) (endsFrom 0 (map (itemOf Blob) rows)) ++ l) (blob-data rows)
-
-blob-small : (rows : List Row) → length (plainOf Blob rows) < 2 ^ 32 → length (data′ (map (itemOf Blob) rows)) < 2 ^ 32
-blob-small rows h =
-    let e : length (plainOf Blob rows) ≡ length (blobBlock (map (itemOf Blob) rows)) = ap length (blob-block rows) in
-    omega (arith, length-append (joined (little 4) (endsFrom 0 (map (itemOf Blob) rows))) (data′ (map (itemOf Blob) rows)))
-
--- no plain rule refuses the block
-pub plain-opens :
-    (k : Kind) (rows : List Row) → Each (Fits k) rows → length (plainOf k rows) < 2 ^ 32 → plainNumber k (length rows) (plainOf k rows) ≡ 0
-plain-opens (Fixed p) rows f s =
-    unfold plainOf in
-    sym (length-same (Fixed p) refl (widthOf p) (length rows) (joined (itemOf (Fixed p)) rows)
-    (fixed-number p (widthOf p) (length rows) (joined (itemOf (Fixed p)) rows) refl)
-    (length-joined (itemOf (Fixed p)) (widthOf p) rows (fixed-wide p rows)))
-plain-opens (Char w) rows f s =
-    unfold plainOf in
-    sym (length-same (Char w) refl w (length rows) (joined (itemOf (Char w)) rows) (char-number w (length rows) (joined (itemOf (Char w)) rows))
-    (length-joined (itemOf (Char w)) w rows (char-wide w rows f)))
-plain-opens Blob rows f s =
-    rw (blob-block rows, ← length-map rows (itemOf Blob)) (blobs-open (map (itemOf Blob) rows) (blob-small rows s))
-
 fixed-item :
     (p : Primitive) (rows : List Row) → Each (Fits (Fixed p)) rows → (i : ℕ) → i < length rows
     → fixedAt p (plainOf (Fixed p) rows) i ≡ intIn (getD rows i null)
@@ -214,15 +222,6 @@ char-item w rows f i h =
     ap beforeNul (rw (append-nil (joined (itemOf (Char w)) rows)) at e)
     ∙ before-padding (bytesIn r) (w - length (bytesIn r))
 
-blob-items :
-    (rows : List Row) → length (plainOf Blob rows) < 2 ^ 32 → (i : ℕ) → i < length rows
-    → blobAt (length rows) (plainOf Blob rows) i ≡ bytesIn (getD rows i null)
-unfolding itemOf bytesIn
-blob-items rows s i h =
-    let xs : List (List ℕ) = map (itemOf Blob) rows in
-    let m : length xs ≡ length rows = length-map rows (itemOf Blob) in
-    rw (blob-block rows, ← m) (blob-item xs (blob-small rows s) i (omega arith)) ∙ List·getD-map (itemOf Blob) rows i null
-
 -- item i of the block is what is kept of row i
 pub plain-row :
     (k : Kind) (rows : List Row) → Each (Fits k) rows → length (plainOf k rows) < 2 ^ 32
@@ -230,4 +229,41 @@ pub plain-row :
 unfolding plainRow cut filled
 plain-row (Fixed p) rows f s i h = ap int (fixed-item p rows f i h)
 plain-row (Char w) rows f s i h = ap bytes (char-item w rows f i h)
-plain-row Blob rows f s i h = ap bytes (blob-items rows s i h)
+plain-row (Blob text) rows f s i h = ap bytes (blob-items text rows s i h)
+
+-- no plain rule refuses the block: the lengths and the ends are right
+lengths-open :
+    (k : Kind) (rows : List Row) → Each (Fits k) rows → length (plainOf k rows) < 2 ^ 32 → lengthsNumber k (length rows) (plainOf k rows) ≡ 0
+lengths-open (Fixed p) rows f s =
+    unfold plainOf in
+    fixed-length p (length rows) (joined (itemOf (Fixed p)) rows) (length-joined (itemOf (Fixed p)) (widthOf p) rows (fixed-wide p rows))
+lengths-open (Char w) rows f s =
+    unfold plainOf in
+    char-length w (length rows) (joined (itemOf (Char w)) rows) (length-joined (itemOf (Char w)) w rows (char-wide w rows f))
+lengths-open (Blob text) rows f s = blob-lengths text rows s
+
+-- and a row that fits char or string is text, also up to its first NUL
+fits-text : (k : Kind) (r : Row) → Fits k r → holdsText k ≡ true → isText (bytesIn r) ≡ true
+unfolding fits bytesIn
+fits-text (Fixed p) r f h = clash (sym h)
+fits-text (Char w) null f h = no-text
+fits-text (Char w) (int v) f h = clash (sym f)
+fits-text (Char w) (bytes bs) f h = both (leb (length bs) w) (isText bs) f .1
+fits-text (Blob true) null f h = no-text
+fits-text (Blob true) (int v) f h = clash (sym f)
+fits-text (Blob true) (bytes bs) f h = f
+fits-text (Blob false) r f h = clash (sym h)
+
+kept-text : (k : Kind) (r : Row) → isText (bytesIn r) ≡ true → holdsText k ≡ true → isText (bytesIn (kept k r)) ≡ true
+unfolding cut filled bytesIn
+kept-text (Fixed p) r t h = clash (sym h)
+kept-text (Char w) r t h = text-before-nul (bytesIn r) t
+kept-text (Blob text) r t h = t
+
+pub plain-opens :
+    (k : Kind) (rows : List Row) → Each (Fits k) rows → length (plainOf k rows) < 2 ^ 32 → plainNumber k (length rows) (plainOf k rows) ≡ 0
+plain-opens k rows f s =
+    all-text k (length rows) (plainOf k rows) (lengths-open k rows f s)
+    (rows-text k (length rows) (plainOf k rows)
+    (λ h i l. ap (λ (r : Row). isText (bytesIn r)) (plain-row k rows f s i l)
+    ∙ kept-text k (getD rows i null) (fits-text k (getD rows i null) (each-at (Fits k) rows null f i l) h) h))

@@ -6,6 +6,7 @@ use mathlib.Core.Path.{_≡_, refl, sym, ap, _∙_}
 use lib.ListN.{length}
 use Rattle.encode.specs.declared.Kind.{Kind}
 use Rattle.encode.specs.declared.Kind.the-variants.{Char}
+use Rattle.utf8.specs.Utf8.{isText, after}
 use Rattle.plain.specs.Rows.{Row, bytes, bytesIn, fits}
 use Rattle.plain.specs.Plain.{joined, itemOf, plainOf}
 use Rattle.format.specs.declared.Encoding.{Encoding}
@@ -22,7 +23,7 @@ pub width-0-tells-nothing :
     (accepted (Char 0) Plain (bytes [] ∷ []) ≡ true)
     × (accepted (Char 0) Plain [] ≡ true)
     × (blockOf (Char 0) Plain (bytes [] ∷ []) ≡ blockOf (Char 0) Plain [])
-unfolding accepted allFit withinLimits storedItems storedEntries fits blockOf plainOf joined itemOf bytesIn
+unfolding accepted allFit withinLimits storedItems storedEntries fits isText after blockOf plainOf joined itemOf bytesIn
 width-0-tells-nothing = (refl, refl, refl)
 
 -- So the pair is named by its numbers.

@@ -32,7 +32,7 @@ uncut : (k : Kind) → ((w : ℕ) → k ≡ Char w → ⊥) → (r : Row) → cu
 unfolding cut
 uncut (Fixed p) other r = refl
 uncut (Char w) other r = absurd (other w refl)
-uncut Blob other r = refl
+uncut (Blob text) other r = refl
 
 all-uncut : (k : Kind) → ((w : ℕ) → k ≡ Char w → ⊥) → (rows : List Row) → map (cut k) rows ≡ rows
 all-uncut k other [] = refl

@@ -35,9 +35,9 @@ use Rattle.builder.specs.Finishing.{Finish, finishOf, heldBlock, finishe
 use Rattle.builder.specs.Asking.{withCounts, Ready}
 
 -- ---- what the areas hold
-ends-held : (k : Kind) (n : ℕ) (a : Lent) → fieldsShort k n (roomOf a) ≡ false → k ≡ Blob → n ≤ length (a .ends)
+ends-held : (k : Kind) (n : ℕ) (a : Lent) → fieldsShort k n (roomOf a) ≡ false → (text : Bool) → k ≡ Blob text → n ≤ length (a .ends)
 unfolding fieldsShort roomOf
-ends-held k n a h q = ltb-false (length (a .ends)) n (sym (ap (λ (j : Kind). fieldsShort j n (roomOf a)) q) ∙ h)
+ends-held k n a h text q = ltb-false (length (a .ends)) n (sym (ap (λ (j : Kind). fieldsShort j n (roomOf a)) q) ∙ h)
 
 pub ready : (k : Kind) (e : Encoding) (r : Counted) (a : Lent) → disagree k e r (roomOf a) ≡ false → Ready k e r a
 unfolding roomOf
@@ -108,17 +108,17 @@ given x {y} q {n} {o} g h = subst (λ (z : Finish). (n ≡ z .answer) × (o ≡ 
 
 -- ---- the length of the block
 plain-long :
-    (k : Kind) (n len : ℕ) (items ends : List ℕ) → len ≤ length items → (k ≡ Blob → n ≤ length ends) → length (heldPlain k n len items ends) ≡ plainBytes k n len
+    (k : Kind) (n len : ℕ) (items ends : List ℕ) → len ≤ length items → ((text : Bool) → k ≡ Blob text → n ≤ length ends) → length (heldPlain k n len items ends) ≡ plainBytes k n len
 unfolding plainBytes
 plain-long k n len items ends h e = length-plain k n len items ends h e ∙ go k
   where
     go : (k : Kind) → endsLength k n + len ≡ plainBytes k n len
     go (Fixed p) = omega arith
     go (Char w) = omega arith
-    go Blob = refl
+    go (Blob text) = refl
 
 inner-long :
-    (f : Bool) (k : Kind) (n len : ℕ) (items ends flags : List ℕ) → len ≤ length items → (k ≡ Blob → n ≤ length ends)
+    (f : Bool) (k : Kind) (n len : ℕ) (items ends flags : List ℕ) → len ≤ length items → ((text : Bool) → k ≡ Blob text → n ≤ length ends)
     → length (heldInner f k n len items ends flags) ≡ plainBytes k n len + cond f (bitmapLength n + 4) 0
 inner-long f k n len items ends flags h e =
     let p = plain-long k n len items ends h e in
@@ -201,11 +201,11 @@ module _ (k : Kind) (r : Counted) (a : Lent) where
   module _ {e : Encoding} (h : Ready k e r a) {m : ℕ} (l : length (heldBlock k e r a) ≤ m) where
     items-ask :
         (f : Bool) {n : ℕ} → n ≡ storedBy e r → (f ≡ true → flagged e ≡ true)
-        → (n ≤ MOST_ITEMS) × (r .bytes ≤ length (a .items)) × (k ≡ Blob → n ≤ length (a .ends)) × (f ≡ true → bitmapLength n ≤ length (a .flags))
+        → (n ≤ MOST_ITEMS) × (r .bytes ≤ length (a .items)) × ((text : Bool) → k ≡ Blob text → n ≤ length (a .ends)) × (f ≡ true → bitmapLength n ≤ length (a .flags))
     items-ask f q g = (
       subst (λ (i : ℕ). i ≤ MOST_ITEMS) (sym q) (h .few),
       h .items,
-      λ z. subst (λ (i : ℕ). i ≤ length (a .ends)) (sym q) (h .ends z),
+      λ t z. subst (λ (i : ℕ). i ≤ length (a .ends)) (sym q) (h .ends t z),
       λ z. subst (λ (i : ℕ). bitmapLength i ≤ length (a .flags)) (sym q) (h .flags (g z)),
     )
 
@@ -214,7 +214,7 @@ module _ (k : Kind) (r : Counted) (a : Lent) where
 
     pub plain-asks :
         e ≡ Plain
-        → (r .rows ≤ MOST_ITEMS) × (r .bytes ≤ length (a .items)) × (k ≡ Blob → r .rows ≤ length (a .ends)) × (false ≡ true → bitmapLength (r .rows) ≤ length (a .flags))
+        → (r .rows ≤ MOST_ITEMS) × (r .bytes ≤ length (a .items)) × ((text : Bool) → k ≡ Blob text → r .rows ≤ length (a .ends)) × (false ≡ true → bitmapLength (r .rows) ≤ length (a .flags))
         × (0 + length (inner false (r .rows)) ≤ m)
     unfolding storedBy keyed coded
     plain-asks q =
@@ -224,7 +224,7 @@ module _ (k : Kind) (r : Counted) (a : Lent) where
 
     pub nullable-asks :
         e ≡ Nullable
-        → (r .rows ≤ MOST_ITEMS) × (r .bytes ≤ length (a .items)) × (k ≡ Blob → r .rows ≤ length (a .ends)) × (true ≡ true → bitmapLength (r .rows) ≤ length (a .flags))
+        → (r .rows ≤ MOST_ITEMS) × (r .bytes ≤ length (a .items)) × ((text : Bool) → k ≡ Blob text → r .rows ≤ length (a .ends)) × (true ≡ true → bitmapLength (r .rows) ≤ length (a .flags))
         × (0 + length (inner true (r .rows)) ≤ m)
     unfolding storedBy keyed coded flagged
     nullable-asks q =
@@ -238,7 +238,7 @@ module _ (k : Kind) (r : Counted) (a : Lent) where
 
       pub runs-ask :
           e ≡ RunLength
-          → (r .runs ≤ MOST_ITEMS) × (r .bytes ≤ length (a .items)) × (k ≡ Blob → r .runs ≤ length (a .ends)) × (false ≡ true → bitmapLength (r .runs) ≤ length (a .flags))
+          → (r .runs ≤ MOST_ITEMS) × (r .bytes ≤ length (a .items)) × ((text : Bool) → k ≡ Blob text → r .runs ≤ length (a .ends)) × (false ≡ true → bitmapLength (r .runs) ≤ length (a .flags))
           × (r .runs ≤ length (a .counts)) × (c ≡ length (heldCounts (r .runs) (a .counts)))
           × (length (heldRuns (r .runs) (a .counts) (inner false (r .runs))) ≤ m)
       unfolding storedBy keyed coded
@@ -249,7 +249,7 @@ module _ (k : Kind) (r : Counted) (a : Lent) where
 
       pub null-runs-ask :
           e ≡ RunLengthNullable
-          → (r .runs ≤ MOST_ITEMS) × (r .bytes ≤ length (a .items)) × (k ≡ Blob → r .runs ≤ length (a .ends)) × (true ≡ true → bitmapLength (r .runs) ≤ length (a .flags))
+          → (r .runs ≤ MOST_ITEMS) × (r .bytes ≤ length (a .items)) × ((text : Bool) → k ≡ Blob text → r .runs ≤ length (a .ends)) × (true ≡ true → bitmapLength (r .runs) ≤ length (a .flags))
           × (r .runs ≤ length (a .counts)) × (c ≡ length (heldCounts (r .runs) (a .counts)))
           × (length (heldRuns (r .runs) (a .counts) (inner true (r .runs))) ≤ m)
       unfolding storedBy keyed coded flagged
@@ -260,7 +260,7 @@ module _ (k : Kind) (r : Counted) (a : Lent) where
 
       pub keys-ask :
           e ≡ Dictionary
-          → (r .entries ≤ MOST_ENTRIES) × (r .bytes ≤ length (a .items)) × (k ≡ Blob → r .entries ≤ length (a .ends)) × (r .runs ≤ MOST_ITEMS)
+          → (r .entries ≤ MOST_ENTRIES) × (r .bytes ≤ length (a .items)) × ((text : Bool) → k ≡ Blob text → r .entries ≤ length (a .ends)) × (r .runs ≤ MOST_ITEMS)
           × (r .runs ≤ length (a .counts)) × (r .runs ≤ length (a .keys)) × (c ≡ length (heldCounts (r .runs) (a .counts)))
           × (length (heldDictionary k (r .entries) (r .bytes) (r .runs) (a .items) (a .ends) (a .counts) (a .keys)) ≤ m)
       unfolding storedBy keyed coded
@@ -270,7 +270,7 @@ module _ (k : Kind) (r : Counted) (a : Lent) where
           let d : keyed e ≡ true = ap keyed q in (
             h .entries d,
             h .items,
-            λ y. subst (λ (i : ℕ). i ≤ length (a .ends)) (sym n) (h .ends y),
+            λ x y. subst (λ (i : ℕ). i ≤ length (a .ends)) (sym n) (h .ends x y),
             h .runs t,
             h .counts t,
             h .keys d,

@@ -12,6 +12,7 @@ use Rattle.builder.specs.declared.Created.the-variants.{New, Refused}
 use Rattle.builder.specs.Building.{Append, appendOf, created, appended}
 use Rattle.builder.specs.Finishing.{Finish, finishOf, finished, estimated}
 use Rattle.varint.specs.Varint as Varint
+use Rattle.utf8.specs.Utf8 as Utf8
 use Rattle.plain.specs.Rows as Rows
 use Rattle.plain.specs.Plain as Plain
 use Rattle.nullable.specs.Nullable as Nullable
@@ -100,7 +101,7 @@ SampleAChar =
 -- each is built so
 samples : SampleA × SampleB × SampleC × SampleD × SampleEDate × SampleEInterval × SampleAChar
 unfolding isPresent append build finish Varint.spellWithin Varint.spelling
-    Rows.valueOf Rows.rowOf Rows.intIn Rows.bytesIn Rows.fits Rows.sameInt Rows.sameBytes Rows.same
+    Rows.valueOf Rows.rowOf Rows.intIn Rows.bytesIn Rows.fits Utf8.isText Utf8.after Rows.sameInt Rows.sameBytes Rows.same
     Plain.joined Plain.places Plain.itemOf Plain.fixedAt Nullable.bitmapLength Nullable.presence Dictionary.nullKey Dictionary.entryKey
     Blocks.withEncoding Blocks.columnOf Kinds.numbered Kinds.kindOf Area.over
     Needs.coded Needs.flagged Needs.keyed Needs.storedBy Needs.plainBytes Needs.innerBytes Needs.runBytes Needs.finishedBytes

@@ -1,7 +1,7 @@
 -- For the code of finish: the numbers by which the block is measured, and what writing it asks of the lent areas. Assumes nothing.
 use Prim.Native.Nat.{ℕ, _≤_}
 use mathlib.Core.Path.{_≡_}
-use mathlib.Core.Bool.{true}
+use mathlib.Core.Bool.{Bool, true}
 use lib.ListN.{length}
 use Rattle.limits.specs.Limits.{MOST_ITEMS, MOST_ENTRIES}
 use Rattle.encode.specs.declared.Kind.{Kind}
@@ -30,7 +30,7 @@ pub record Ready (k : Kind) (e : Encoding) (r : Counted) (a : Lent) : Type 0 whe
   pub entries : keyed e ≡ true → r .entries ≤ MOST_ENTRIES
   pub runs : coded e ≡ true → r .runs ≤ MOST_ITEMS
   pub items : r .bytes ≤ length (a .items)
-  pub ends : k ≡ Blob → storedBy e r ≤ length (a .ends)
+  pub ends : (text : Bool) → k ≡ Blob text → storedBy e r ≤ length (a .ends)
   pub flags : flagged e ≡ true → bitmapLength (storedBy e r) ≤ length (a .flags)
   pub counts : coded e ≡ true → r .runs ≤ length (a .counts)
   pub keys : keyed e ≡ true → r .runs ≤ length (a .keys)

@@ -7,7 +7,7 @@ ghost use Rattle.append.specs.Appending.{lent};
 ghost use Rattle.builder.specs.Building.{appended};
 
 impl Builder {
-    // Appends one row: whether it is present, its integer for a fixed kind, its bytes for char and blob.
+    // Appends one row: whether it is present, its integer for a fixed kind, its bytes for char, blob and string.
     pub fn append(
         self,
         items: &mut [u8],

@@ -38,12 +38,12 @@ use Rattle.building_laws.proofs.Records.{Recorded, stored-by}
 abbrev pub EndsHeld : Kind → List Row → List ℕ → Type 0
 EndsHeld (Fixed p) s l = Unit
 EndsHeld (Char w) s l = Unit
-EndsHeld Blob s l = take (length s) l ≡ endsFrom 0 (map (itemOf Blob) s)
+EndsHeld (Blob text) s l = take (length s) l ≡ endsFrom 0 (map (itemOf (Blob text)) s)
 
 abbrev pub LensHeld : Kind → List Row → List ℕ → Type 0
 LensHeld (Fixed p) s l = Unit
 LensHeld (Char w) s l = take (length s) l ≡ map (λ x. length (bytesIn x)) s
-LensHeld Blob s l = Unit
+LensHeld (Blob text) s l = Unit
 
 -- what each area holds first; all that is stored fits
 pub record Holds (k : Kind) (e : Encoding) (xs : List Row) (a : Lent) : Type 0 where
@@ -95,22 +95,22 @@ module _ (x : Row) (s s′ : List Row) where
   unfolding endsWith endSlots
   ends-held (Fixed p) item n m l g e d h q = tt
   ends-held (Char w) item n m l g e d h q = tt
-  ends-held Blob item n m l g e d h q =
-      let f : Row → List ℕ = itemOf Blob in
+  ends-held (Blob text) item n m l g e d h q =
+      let f : Row → List ℕ = itemOf (Blob text) in
       let long : (t : List Row) → length (endsFrom 0 (map f t)) ≡ length t = λ t. length-ends 0 (map f t) ∙ length-map t f in
       rw (← long s′)
       (beside-slots item (endsFrom 0 (map f s)) (endsFrom 0 (map f s′)) (m + length (f x)) n l (grows item g) (e ∙ sym (long s)) (rw (long s′) h) (rw (long s) q))
     where
       grows : (item : Bool) → s′ ≡ cond item (s ++ (x ∷ [])) s
-          → endsFrom 0 (map (itemOf Blob) s′) ≡ cond item (endsFrom 0 (map (itemOf Blob) s) ++ ((m + length (itemOf Blob x)) ∷ [])) (endsFrom 0 (map (itemOf Blob) s))
-      grows true g = rw (g, d) (ends-snoc (itemOf Blob) 0 s x ∙ rw zero-add)
+          → endsFrom 0 (map (itemOf (Blob text)) s′) ≡ cond item (endsFrom 0 (map (itemOf (Blob text)) s) ++ ((m + length (itemOf (Blob text) x)) ∷ [])) (endsFrom 0 (map (itemOf (Blob text)) s))
+      grows true g = rw (g, d) (ends-snoc (itemOf (Blob text)) 0 s x ∙ rw zero-add)
       grows false g = rw g
 
   lens-held : (k : Kind) (item : Bool) (n : ℕ) (l : List ℕ) → s′ ≡ cond item (s ++ (x ∷ [])) s → n ≡ length s
       → lenSlots k (length s′) ≤ length l → LensHeld k s l → LensHeld k s′ (cond item (lensWith k n (length (bytesIn x)) l) l)
   unfolding lensWith lenSlots
   lens-held (Fixed p) item n l g e h q = tt
-  lens-held Blob item n l g e h q = tt
+  lens-held (Blob text) item n l g e h q = tt
   lens-held (Char w) item n l g e h q =
       let f : Row → ℕ = λ y. length (bytesIn y) in
       let long : (t : List Row) → length (map f t) ≡ length t = λ t. length-map t f in
@@ -136,14 +136,14 @@ ends-kept : (k : Kind) (item : Bool) (i v : ℕ) (l : List ℕ) → length (cond
 unfolding endsWith
 ends-kept (Fixed p) true i v l = refl
 ends-kept (Char w) true i v l = refl
-ends-kept Blob true i v l = length-set l i v
+ends-kept (Blob text) true i v l = length-set l i v
 ends-kept k false i v l = refl
 
 lens-kept : (k : Kind) (item : Bool) (i v : ℕ) (l : List ℕ) → length (cond item (lensWith k i v l) l) ≡ length l
 unfolding lensWith
 lens-kept (Fixed p) true i v l = refl
 lens-kept (Char w) true i v l = length-set l i v
-lens-kept Blob true i v l = refl
+lens-kept (Blob text) true i v l = refl
 lens-kept k false i v l = refl
 
 flags-kept : (t : Bool) (i v : ℕ) (l : List ℕ) → length (cond t (flagsWith i v l) l) ≡ length l

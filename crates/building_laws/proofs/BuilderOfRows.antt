@@ -66,7 +66,7 @@ none-held : (k : Kind) (es ls : List ℕ) → EndsHeld k [] es × LensHeld k [] 
 unfolding endsFrom
 none-held (Fixed p) es ls = (tt, tt)
 none-held (Char w) es ls = (tt, refl)
-none-held Blob es ls = (refl, tt)
+none-held (Blob text) es ls = (refl, tt)
 
 module _ (k : Kind) (e : Encoding) where
   none-recorded : Recorded k e [] noneCounted

@@ -75,18 +75,18 @@ ends-at f at (y ∷ s) (suc i) h =
     let b = ends-at f (at + length (f y)) s i (omega arith) in
     omega arith
 
-module _ (l : List ℕ) (xs : List Row) (x : Row) (ys : List Row)
-    (q : take (length (xs ++ (x ∷ ys))) l ≡ endsFrom 0 (map (itemOf Blob) (xs ++ (x ∷ ys)))) where
-  end-of : getD l (length xs) 0 ≡ length (joined (itemOf Blob) xs) + length (itemOf Blob x)
+module _ (f : Row → List ℕ) (l : List ℕ) (xs : List Row) (x : Row) (ys : List Row)
+    (q : take (length (xs ++ (x ∷ ys))) l ≡ endsFrom 0 (map f (xs ++ (x ∷ ys)))) where
+  end-of : getD l (length xs) 0 ≡ length (joined f xs) + length (f x)
   end-of =
       let s : List Row = xs ++ (x ∷ ys) in
-      slot-at (endsFrom 0 (map (itemOf Blob) s)) l (length s) (length xs) q (before-one xs x ys)
-      ∙ ends-at (itemOf Blob) 0 s (length xs) (before-one xs x ys)
-      ∙ zero-add (length (joined (itemOf Blob) (take (suc (length xs)) s)))
-      ∙ ap (λ (m : List Row). length (joined (itemOf Blob) m)) (take-with xs x ys)
-      ∙ length-joined-snoc (itemOf Blob) xs x
+      slot-at (endsFrom 0 (map f s)) l (length s) (length xs) q (before-one xs x ys)
+      ∙ ends-at f 0 s (length xs) (before-one xs x ys)
+      ∙ zero-add (length (joined f (take (suc (length xs)) s)))
+      ∙ ap (λ (m : List Row). length (joined f m)) (take-with xs x ys)
+      ∙ length-joined-snoc f xs x
 
-  start-by : (i : ℕ) → i ≡ length xs → itemStart l i ≡ length (joined (itemOf Blob) xs)
+  start-by : (i : ℕ) → i ≡ length xs → itemStart l i ≡ length (joined f xs)
   unfolding itemStart joined
   start-by zero e = rw (none xs (sym e))
     where
@@ -96,13 +96,13 @@ module _ (l : List ℕ) (xs : List Row) (x : Row) (ys : List Row)
   start-by (suc i) e =
       let s : List Row = xs ++ (x ∷ ys) in
       let b = before-one xs x ys in
-      slot-at (endsFrom 0 (map (itemOf Blob) s)) l (length s) i q (omega arith)
-      ∙ ends-at (itemOf Blob) 0 s i (omega arith)
-      ∙ zero-add (length (joined (itemOf Blob) (take (suc i) s)))
-      ∙ ap (λ (n : ℕ). length (joined (itemOf Blob) (take n s))) e
-      ∙ ap (λ (m : List Row). length (joined (itemOf Blob) m)) (take-at xs (x ∷ ys) (length xs) refl)
+      slot-at (endsFrom 0 (map f s)) l (length s) i q (omega arith)
+      ∙ ends-at f 0 s i (omega arith)
+      ∙ zero-add (length (joined f (take (suc i) s)))
+      ∙ ap (λ (n : ℕ). length (joined f (take n s))) e
+      ∙ ap (λ (m : List Row). length (joined f m)) (take-at xs (x ∷ ys) (length xs) refl)
 
-  start-of : itemStart l (length xs) ≡ length (joined (itemOf Blob) xs)
+  start-of : itemStart l (length xs) ≡ length (joined f xs)
   start-of = start-by (length xs) refl
 
 len-of : (l : List ℕ) (xs : List Row) (x : Row) (ys : List Row)
@@ -121,10 +121,10 @@ no-fault start end len n i a b c = rw (le-ltb end start a, le-ltb len end b) (go
     go true e = rw (eq-eqb end len (c (eqb-true (suc i) n e)))
     go false e = refl
 
-none-more : (m : List Row) → length m ≡ 0 → length (joined (itemOf Blob) m) ≡ 0
+none-more : (f : Row → List ℕ) (m : List Row) → length m ≡ 0 → length (joined f m) ≡ 0
 unfolding joined
-none-more [] d = refl
-none-more (y ∷ m) d = absurd (omega arith)
+none-more f [] d = refl
+none-more f (y ∷ m) d = absurd (omega arith)
 
 item-and : (f : Row → List ℕ) (x : Row) (m : List Row) → length (joined f (x ∷ m)) ≡ length (f x) + length (joined f m)
 unfolding joined
@@ -137,13 +137,13 @@ field-right (Fixed p) xs x ys h g = refl
 field-right (Char w) xs x ys h g =
     rw (len-of (h .lens) xs x ys (g .lens))
     (le-ltb w (length (bytesIn x)) (char-short w x (each-second (λ y. fits (Char w) y ≡ true) xs (x ∷ ys) (g .fit) .0)))
-field-right Blob xs x ys h g =
-    let f : Row → List ℕ = itemOf Blob in
+field-right (Blob text) xs x ys h g =
+    let f : Row → List ℕ = itemOf (Blob text) in
     let j : length (joined f (xs ++ (x ∷ ys))) ≡ length (joined f xs) + length (joined f (x ∷ ys)) = ap length (joined-append f xs (x ∷ ys)) ∙ length-append (joined f xs) (joined f (x ∷ ys)) in
     let i : length (joined f (x ∷ ys)) ≡ length (f x) + length (joined f ys) = item-and f x ys in
-    rw (end-of (h .ends) xs x ys (g .ends), start-of (h .ends) xs x ys (g .ends))
+    rw (end-of f (h .ends) xs x ys (g .ends), start-of f (h .ends) xs x ys (g .ends))
     (no-fault (length (joined f xs)) (length (joined f xs) + length (f x)) (length (joined f (xs ++ (x ∷ ys)))) (length (xs ++ (x ∷ ys))) (length xs) (omega arith) (omega arith)
-    (λ q. let z = none-more ys (let a = length-append xs (x ∷ ys) in omega arith) in omega arith))
+    (λ q. let z = none-more f ys (let a = length-append xs (x ∷ ys) in omega arith) in omega arith))
 
 -- ---- an item comes back as it was given
 int-back : (p : Primitive) (x : Row) → presence x ≡ 1 → fits (Fixed p) x ≡ true → int (decoded p (encoded p (intIn x))) ≡ x
@@ -158,11 +158,11 @@ char-back w null s f = absurd (omega arith)
 char-back w (int v) s f = never f
 char-back w (bytes bs) s f = refl
 
-blob-back : (x : Row) → presence x ≡ 1 → fits Blob x ≡ true → bytes (bytesIn x) ≡ x
+blob-back : (text : Bool) (x : Row) → presence x ≡ 1 → fits (Blob text) x ≡ true → bytes (bytesIn x) ≡ x
 unfolding presence fits bytesIn
-blob-back null s f = absurd (omega arith)
-blob-back (int v) s f = never f
-blob-back (bytes bs) s f = refl
+blob-back text null s f = absurd (omega arith)
+blob-back text (int v) s f = never f
+blob-back text (bytes bs) s f = refl
 
 pub item-back : (k : Kind) (xs : List Row) (x : Row) (ys : List Row) (h : Held) → Stored k (xs ++ (x ∷ ys)) h → presence x ≡ 1 → heldRow k h (length xs) ≡ x
 unfolding heldRow fixedAt itemOf
@@ -182,15 +182,15 @@ item-back (Char w) xs x ys h g s =
     ∙ ap (take (length (bytesIn x))) (items-from f xs x ys (h .items) (g .items) ∙ append-assoc (bytesIn x) (replicate (w - length (bytesIn x)) 0) tail)
     ∙ take-at (bytesIn x) _ (length (bytesIn x)) refl in
     rw (len-of (h .lens) xs x ys (g .lens), t) (char-back w x s (each-second (λ y. fits (Char w) y ≡ true) xs (x ∷ ys) (g .fit) .0))
-item-back Blob xs x ys h g s =
-    let f : Row → List ℕ = itemOf Blob in
+item-back (Blob text) xs x ys h g s =
+    let f : Row → List ℕ = itemOf (Blob text) in
     let a : ℕ = length (joined f xs) in
     let m : a + length (bytesIn x) - a ≡ length (bytesIn x) = omega arith in
     let t : take (a + length (bytesIn x) - a) (drop a (h .items)) ≡ bytesIn x =
     ap (λ (n : ℕ). take n (drop a (h .items))) m
     ∙ ap (take (length (bytesIn x))) (items-from f xs x ys (h .items) (g .items))
     ∙ take-at (bytesIn x) _ (length (bytesIn x)) refl in
-    rw (end-of (h .ends) xs x ys (g .ends), start-of (h .ends) xs x ys (g .ends), t) (blob-back x s (each-second (λ y. fits Blob y ≡ true) xs (x ∷ ys) (g .fit) .0))
+    rw (end-of f (h .ends) xs x ys (g .ends), start-of f (h .ends) xs x ys (g .ends), t) (blob-back text x s (each-second (λ y. fits (Blob text) y ≡ true) xs (x ∷ ys) (g .fit) .0))
 
 -- ---- the lookup
 module _ (k : Kind) (h : Held) (row : Row) where

@@ -47,7 +47,7 @@ plain-held : (k : Kind) (s : List Row) (n len : ℕ) (is es : List ℕ) → n �
 unfolding heldPlain plainOf
 plain-held (Fixed p) s n len is es e d q h = rw (d, q)
 plain-held (Char w) s n len is es e d q h = rw (d, q)
-plain-held Blob s n len is es e d q h = rw (d, q, e, h)
+plain-held (Blob text) s n len is es e d q h = rw (d, q, e, h)
 
 inner-held : (t : Bool) (k : Kind) (s : List Row) (n len : ℕ) (is es fs : List ℕ) → n ≡ length s → len ≡ length (joined (itemOf k) s)
     → take (length (joined (itemOf k) s)) is ≡ joined (itemOf k) s → EndsHeld k s es → (t ≡ true → map (bitAt fs) (places (length s) 0) ≡ map presence s)
@@ -148,9 +148,9 @@ next-told : (k : Kind) (g : Given) → nextBytes k (g .present) (length (g .text
 unfolding nextBytes nextSize rowIn rowOf valueOf bytesIn
 next-told (Fixed p) g = refl
 next-told (Char w) g = refl
-next-told Blob g = go (g .present)
+next-told (Blob text) g = go (g .present)
   where
-    go : (t : Bool) → cond t (length (g .text) + 4) 4 ≡ length (bytesIn (cond t (valueOf Blob (g .value) (g .text)) null)) + 4
+    go : (t : Bool) → cond t (length (g .text) + 4) 4 ≡ length (bytesIn (cond t (valueOf (Blob text) (g .value) (g .text)) null)) + 4
     go true = refl
     go false = refl
 
@@ -158,7 +158,7 @@ no-keys : (k : Kind) → keyTarget k ≡ 0
 unfolding keyTarget plainSize plainOf joined endsFrom
 no-keys (Fixed p) = refl
 no-keys (Char w) = refl
-no-keys Blob = refl
+no-keys (Blob text) = refl
 
 module _ (k : Kind) (rows : List Row) (r : Counted) (target : ℕ) (g : Given) where
   items-full : (e : Encoding) → Recorded k e rows r

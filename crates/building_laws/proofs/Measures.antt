@@ -41,11 +41,11 @@ pub plain-length : (k : Kind) (s : List Row) → plainBytes k (length s) (length
 unfolding plainBytes plainOf
 plain-length (Fixed p) s = refl
 plain-length (Char w) s = refl
-plain-length Blob s =
-    let es : List ℕ = endsFrom 0 (map (itemOf Blob) s) in
-    let a = length-append (joined (little 4) es) (joined (itemOf Blob) s) in
+plain-length (Blob text) s =
+    let es : List ℕ = endsFrom 0 (map (itemOf (Blob text)) s) in
+    let a = length-append (joined (little 4) es) (joined (itemOf (Blob text)) s) in
     let b = fours es in
-    let c : length es ≡ length s = length-ends 0 (map (itemOf Blob) s) ∙ length-map s (itemOf Blob) in
+    let c : length es ≡ length s = length-ends 0 (map (itemOf (Blob text)) s) ∙ length-map s (itemOf (Blob text)) in
     omega arith
 
 -- keys are four bytes each

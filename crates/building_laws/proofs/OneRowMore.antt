@@ -145,13 +145,13 @@ pub ends-least : (k : Kind) (m n : ℕ) → m ≤ n → endSlots k m ≤ endSlot
 unfolding endSlots
 ends-least (Fixed p) m n h = omega arith
 ends-least (Char w) m n h = omega arith
-ends-least Blob m n h = h
+ends-least (Blob text) m n h = h
 
 pub lens-least : (k : Kind) (m n : ℕ) → m ≤ n → lenSlots k m ≤ lenSlots k n
 unfolding lenSlots
 lens-least (Fixed p) m n h = omega arith
 lens-least (Char w) m n h = h
-lens-least Blob m n h = omega arith
+lens-least (Blob text) m n h = omega arith
 
 pub flags-least : (t : Bool) (m n : ℕ) → m ≤ n → cond t (bitmapLength m) 0 ≤ cond t (bitmapLength n) 0
 unfolding bitmapLength

@@ -71,7 +71,7 @@ plain-least : (k : Kind) (m n l o : ℕ) → m ≤ n → l ≤ o → plainBytes 
 unfolding plainBytes
 plain-least (Fixed p) m n l o h g = g
 plain-least (Char w) m n l o h g = g
-plain-least Blob m n l o h g = omega arith
+plain-least (Blob text) m n l o h g = omega arith
 
 module _ (k : Kind) (r s : Counted) (h : Least r s) where
   stored-least : (e : Encoding) → storedBy e r ≤ storedBy e s

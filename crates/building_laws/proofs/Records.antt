@@ -164,8 +164,8 @@ bytes-right : (k : Kind) (s : List Row) → Each (λ x. fits k x ≡ true) s →
 unfolding bytesWrong joined
 bytes-right (Fixed p) s h = rw (eq-eqb (length (joined (itemOf (Fixed p)) s)) (length s * widthOf p) (fixed-items p s))
 bytes-right (Char w) s h = rw (eq-eqb (length (joined (itemOf (Char w)) s)) (length s * w) (char-items w s h))
-bytes-right Blob [] h = refl
-bytes-right Blob (x ∷ s) h = rw (ne-eqb (suc (length s)) 0 (λ (q : suc (length s) ≡ 0). omega arith))
+bytes-right (Blob text) [] h = refl
+bytes-right (Blob text) (x ∷ s) h = rw (ne-eqb (suc (length s)) 0 (λ (q : suc (length s) ≡ 0). omega arith))
 
 counts-small : (k : Kind) (e : Encoding) (rows : List Row) → length (countsOf (storedRuns e rows)) ≤ length (blockOf k e rows)
 unfolding storedRuns blockOf keyBlockOf keysOf countsOf joined
@@ -198,7 +198,7 @@ fields-long : (k : Kind) (n : ℕ) (a : Lent) → endSlots k n ≤ length (a .en
 unfolding fieldsShort roomOf endSlots lenSlots
 fields-long (Fixed p) n a h g = refl
 fields-long (Char w) n a h g = le-ltb (length (a .lens)) n g
-fields-long Blob n a h g = le-ltb (length (a .ends)) n h
+fields-long (Blob text) n a h g = le-ltb (length (a .ends)) n h
 
 if-long : (t : Bool) (n m : ℕ) → cond t n 0 ≤ m → (t && ltb m n) ≡ false
 if-long true n m h = le-ltb m n h

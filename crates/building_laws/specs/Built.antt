@@ -102,12 +102,12 @@ storedRuns Dictionary rows = runsOf (keysOf rows)
 unfoldable pub endSlots : Kind → ℕ → ℕ
 endSlots (Fixed p) n = 0
 endSlots (Char w) n = 0
-endSlots Blob n = n
+endSlots (Blob text) n = n
 
 unfoldable pub lenSlots : Kind → ℕ → ℕ
 lenSlots (Fixed p) n = 0
 lenSlots (Char w) n = n
-lenSlots Blob n = 0
+lenSlots (Blob text) n = 0
 
 -- the item bytes stored; those slots; one byte per eight flags, rounded up, in encodings 1 and 3; one slot a run; one i32 slot a key run
 pub record Enough (k : Kind) (e : Encoding) (rows : List Row) (a : Lent) : Type 0 where

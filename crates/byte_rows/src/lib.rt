@@ -1,9 +1,10 @@
-// The second pass over the rows of char and blob: their flags, their ends and their bytes, run by run. The first pass has found them
+// The second pass over the rows of char, blob and string: their flags, their ends and their bytes, run by run. The first pass has found them
 // there and good.
 use encode::Kind;
 use plain::Range;
 use rle::Spot;
 use source::Source;
+ghost use mathlib.Core.Bool.{Bool};
 ghost use mathlib.Core.Path.{_≡_};
 ghost use mathlib.Core.List.{map};
 ghost use Prim.Native.Nat.{_+_, _*_, _<_, _≤_, _^_};
@@ -88,7 +89,7 @@ fn put_blobs(
     ends: &mut [u32],
     bytes: &mut [u8],
 )
-    requires { ⌜ Ready s (now marks) (now items) × Starts s from n × (s .kind ≡ Blob)
+    requires { ⌜ Ready s (now marks) (now items) × Starts s from n × ((text : Bool) × (s .kind ≡ Blob text))
         × Writes (goodBy s (now marks) (now items)) (stepsOf s (now counts) n from) n (length (now ends)) × (n ≤ length (now flags))
         × (sumOf (sizeBy s (now marks) (now items)) (stepRuns (stepsOf s (now counts) n from)) ≤ length (now bytes))
         × (sumOf (sizeBy s (now marks) (now items)) (stepRuns (stepsOf s (now counts) n from)) < 2 ^ 32) ⌝ }
@@ -114,7 +115,7 @@ fn put_blobs(
     }
 }
 
-// Writes the flags, the ends and the bytes of the next `n` rows of char or blob.
+// Writes the flags, the ends and the bytes of the next `n` rows of char, blob or string.
 pub fn put_texts(
     s: Source,
     counts: &[u8],
@@ -149,6 +150,6 @@ pub fn put_texts(
             ends,
             bytes,
         ),
-        Kind::Blob => put_blobs(s, counts, marks, items, from, n, flags, ends, bytes),
+        Kind::Blob(_) => put_blobs(s, counts, marks, items, from, n, flags, ends, bytes),
     }
 }

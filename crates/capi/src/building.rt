@@ -49,7 +49,7 @@ pub extern "C" fn idz_create(kind: usize, encoding: usize, width: usize, target:
     }
 }
 
-// Appends one row: whether it is present, its integer for a fixed kind, its bytes for char and blob.
+// Appends one row: whether it is present, its integer for a fixed kind, its bytes for char, blob and string.
 #[no_mangle]
 pub extern "C" fn idz_append(
     builder: Builder,

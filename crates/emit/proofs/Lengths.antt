@@ -38,17 +38,17 @@ module _ {A : Type 0} (f : A → List ℕ) (four : (x : A) → length (f x) ≡ 
 abbrev pub endsLength : Kind → ℕ → ℕ
 endsLength (Fixed p) n = 0
 endsLength (Char w) n = 0
-endsLength Blob n = 4 * n
+endsLength (Blob text) n = 4 * n
 
 pub length-plain :
-    (k : Kind) (n len : ℕ) (items ends : List ℕ) → len ≤ length items → (k ≡ Blob → n ≤ length ends)
+    (k : Kind) (n len : ℕ) (items ends : List ℕ) → len ≤ length items → ((text : Bool) → k ≡ Blob text → n ≤ length ends)
     → length (heldPlain k n len items ends) ≡ endsLength k n + len
 unfolding heldPlain
 length-plain (Fixed p) n len items ends h e = length-take-le len items h ∙ omega arith
 length-plain (Char w) n len items ends h e = length-take-le len items h ∙ omega arith
-length-plain Blob n len items ends h e =
+length-plain (Blob text) n len items ends h e =
     length-append (joined (little 4) (take n ends)) (take len items)
-    ∙ omega (arith, length-joined (little 4) (length-bytes low-first 4) n ends (e refl), length-take-le len items h)
+    ∙ omega (arith, length-joined (little 4) (length-bytes low-first 4) n ends (e text refl), length-take-le len items h)
 
 -- ---- a nullable one
 pub length-bits : (n : ℕ) (flags : List ℕ) → length (heldBitmap n flags) ≡ bitmapLength n

@@ -146,10 +146,10 @@ pub few-bytes :
 unfolding heldPlain
 few-bytes (Fixed p) n len items ends h = refl
 few-bytes (Char w) n len items ends h = refl
-few-bytes Blob n len items ends h = absurd (miss (0 ∷ 1 ∷ []) 2 tt h)
+few-bytes (Blob text) n len items ends h = absurd (miss (0 ∷ 1 ∷ []) 2 tt h)
 
 module _ (k : Kind) (n len : ℕ) (items ends : List ℕ) where
-  pub blob-bytes : k ≡ Blob → joined (little 4) (take n ends) ++ take len items ≡ heldPlain k n len items ends
+  pub blob-bytes : {text : Bool} → k ≡ Blob text → joined (little 4) (take n ends) ++ take len items ≡ heldPlain k n len items ends
   unfolding heldPlain
   blob-bytes e = ap (λ (j : Kind). heldPlain j n len items ends) (sym e)
 

@@ -18,7 +18,7 @@ use Rattle.nullable.specs.Nullable.{bitmapLength}
 unfoldable pub heldPlain : Kind → ℕ → ℕ → List ℕ → List ℕ → List ℕ
 heldPlain (Fixed p) n len items ends = take len items
 heldPlain (Char w) n len items ends = take len items
-heldPlain Blob n len items ends = joined (little 4) (take n ends) ++ take len items
+heldPlain (Blob text) n len items ends = joined (little 4) (take n ends) ++ take len items
 
 -- byte k of a bitmap of n bits: the bits that are unused are 0
 unfoldable pub heldByte : ℕ → List ℕ → ℕ → ℕ

@@ -1,7 +1,7 @@
 // The parts of the block that lent areas hold, each written into lent room at a place.
 use encode::Kind;
 ghost use mathlib.Core.Path.{_≡_};
-ghost use mathlib.Core.Bool.{true};
+ghost use mathlib.Core.Bool.{Bool, true};
 ghost use mathlib.Core.List.{_++_};
 ghost use Prim.Native.Nat.{_+_, _*_, _%_, _<_, _≤_, _^_};
 ghost use lib.IntN.{ℤ};
@@ -54,7 +54,7 @@ fn write_plain(
     out: &mut [u8],
     at: usize,
 ) -> usize
-    requires { ⌜ (len ≤ length (now items)) × (kind ≡ Blob → n ≤ length (now ends)) × (at + length (heldPlain kind n len (now items) (now ends)) ≤ length (now out)) ⌝ }
+    requires { ⌜ (len ≤ length (now items)) × ((text : Bool) → kind ≡ Blob text → n ≤ length (now ends)) × (at + length (heldPlain kind n len (now items) (now ends)) ≤ length (now out)) ⌝ }
     ensures { λ r. ⌜ r ≡ at + length (heldPlain kind n len (now (items .entry)) (now (ends .entry))) ⌝ }
     ensures { λ _. ⌜ now (out .exit) ≡ sets (now (out .entry)) at (heldPlain kind n len (now (items .entry)) (now (ends .entry))) ⌝ }
 {
@@ -63,7 +63,7 @@ fn write_plain(
             area::copy(items, 0, len, out, at);
             at + len
         }
-        Kind::Blob => {
+        Kind::Blob(_) => {
             let to = write_ends(n, ends, out, at);
             area::copy(items, 0, len, out, to);
             to + len
@@ -117,7 +117,7 @@ pub fn write_inner(
 ) -> usize
     requires { ⌜ (n ≤ MOST_ITEMS)
         × (len ≤ length (now items))
-        × (kind ≡ Blob → n ≤ length (now ends))
+        × ((text : Bool) → kind ≡ Blob text → n ≤ length (now ends))
         × (flagged ≡ true → bitmapLength n ≤ length (now flags))
         × (at + length (heldInner flagged kind n len (now items) (now ends) (now flags)) ≤ length (now out)) ⌝ }
     ensures { λ r. ⌜ r ≡ at + length (heldInner flagged kind n len (now (items .entry)) (now (ends .entry)) (now (flags .entry))) ⌝ }
@@ -222,7 +222,7 @@ pub fn write_coded(
 )
     requires { ⌜ (n ≤ MOST_ITEMS)
         × (len ≤ length (now items))
-        × (kind ≡ Blob → n ≤ length (now ends))
+        × ((text : Bool) → kind ≡ Blob text → n ≤ length (now ends))
         × (flagged ≡ true → bitmapLength n ≤ length (now flags))
         × (n ≤ length (now counts))
         × (size ≡ length (heldCounts n (now counts)))
@@ -275,7 +275,7 @@ pub fn write_dictionary(
 )
     requires { ⌜ (entries ≤ MOST_ENTRIES)
         × (len ≤ length (now items))
-        × (kind ≡ Blob → entries ≤ length (now ends))
+        × ((text : Bool) → kind ≡ Blob text → entries ≤ length (now ends))
         × (n ≤ MOST_ITEMS)
         × (n ≤ length (now counts))
         × (n ≤ length (now keys))

@@ -29,9 +29,9 @@ module _ (k w : ℕ) (other : k ≡ 8 → ⊥) where
 
   pub number-refused :
       w ≡ 0 → (n0 : k ≡ 0 → ⊥) (n1 : k ≡ 1 → ⊥) (n2 : k ≡ 2 → ⊥) (n3 : k ≡ 3 → ⊥) (n4 : k ≡ 4 → ⊥) (n5 : k ≡ 5 → ⊥)
-      (n6 : k ≡ 6 → ⊥) (n7 : k ≡ 7 → ⊥) (n9 : k ≡ 9 → ⊥) (n11 : k ≡ 11 → ⊥) → Unknown ≡ kindOf k w
+      (n6 : k ≡ 6 → ⊥) (n7 : k ≡ 7 → ⊥) (n9 : k ≡ 9 → ⊥) (n10 : k ≡ 10 → ⊥) (n11 : k ≡ 11 → ⊥) → Unknown ≡ kindOf k w
   unfolding kindOf numbered
-  number-refused h n0 n1 n2 n3 n4 n5 n6 n7 n9 n11 =
+  number-refused h n0 n1 n2 n3 n4 n5 n6 n7 n9 n10 n11 =
       simp (
         ne-eqb k 8 other,
         eq-eqb w 0 h,
@@ -44,5 +44,6 @@ module _ (k w : ℕ) (other : k ≡ 8 → ⊥) where
         ne-eqb k 6 n6,
         ne-eqb k 7 n7,
         ne-eqb k 9 n9,
+        ne-eqb k 10 n10,
         ne-eqb k 11 n11,
       )

@@ -94,6 +94,19 @@ decoded p bs = valueAs (layoutOf p) bs
 abbrev pub takes : Primitive → ℤ → Bool
 takes p v = takesAs (layoutOf p .reading) (layoutOf p .size) v
 
+-- ---- blob, whose items are any bytes, and string, which is laid out alike and whose items are text
+abbrev pub blob : Kind
+blob = Blob false
+
+abbrev pub string : Kind
+string = Blob true
+
+-- the kinds whose items are text
+abbrev pub holdsText : Kind → Bool
+holdsText (Fixed p) = false
+holdsText (Char w) = true
+holdsText (Blob text) = text
+
 -- ---- the kinds by number; the width is 0 for every kind but char
 unfoldable pub numbered : ℕ → FoundKind
 numbered k =
@@ -105,8 +118,9 @@ numbered k =
     (cond (eqb k 5) (Known (Fixed Timestamp))
     (cond (eqb k 6) (Known (Fixed TimestampTz))
     (cond (eqb k 7) (Known (Fixed Interval))
-    (cond (eqb k 9) (Known Blob)
-    (cond (eqb k 11) (Known (Fixed F64)) Unknown)))))))))
+    (cond (eqb k 9) (Known blob)
+    (cond (eqb k 10) (Known string)
+    (cond (eqb k 11) (Known (Fixed F64)) Unknown))))))))))
 
 unfoldable pub kindOf : ℕ → ℕ → FoundKind
 kindOf k w =

@@ -44,11 +44,11 @@ pub enum Shape {
     High8,
 }
 
-// Every kind. A char has a width of 1 to 255.
+// Every kind. A char has a width of 1 to 255. A blob's items are any bytes; those of a string are laid out alike and are text.
 pub enum Kind {
     Fixed(Primitive),
     Char(u8),
-    Blob,
+    Blob(bool),
 }
 
 // What a kind's number and a width name.
@@ -366,7 +366,8 @@ pub fn kind_of(kind: usize, width: usize) -> FoundKind
         5 => FoundKind::Known(Kind::Fixed(Primitive::Timestamp)),
         6 => FoundKind::Known(Kind::Fixed(Primitive::TimestampTz)),
         7 => FoundKind::Known(Kind::Fixed(Primitive::Interval)),
-        9 => FoundKind::Known(Kind::Blob),
+        9 => FoundKind::Known(Kind::Blob(false)),
+        10 => FoundKind::Known(Kind::Blob(true)),
         11 => FoundKind::Known(Kind::Fixed(Primitive::F64)),
         _ => FoundKind::Unknown,
     }

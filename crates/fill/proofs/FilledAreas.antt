@@ -313,4 +313,4 @@ pub is-text : (k : Kind) → isBytes k ≡ true → Texts k
 unfolding isBytes Texts
 is-text (Fixed p) h = let z : _≡_ {A = ℕ} 0 1 = cc in absurd (omega arith)
 is-text (Char w) h = tt
-is-text Blob h = tt
+is-text (Blob text) h = tt

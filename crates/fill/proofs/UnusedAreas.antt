@@ -145,4 +145,4 @@ pub as-bytes : (k : Kind) → OneOf (1 ∷ 2 ∷ []) (tagOf the-type k) → isBy
 unfolding isBytes
 as-bytes (Fixed q) h = absurd (miss (1 ∷ 2 ∷ []) 0 tt h)
 as-bytes (Char w) h = refl
-as-bytes Blob h = refl
+as-bytes (Blob text) h = refl

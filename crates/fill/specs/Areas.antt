@@ -23,11 +23,11 @@ pub record Areas : Type 0 where
 abbrev pub areas : List ℤ → List ℕ → List ℕ → List ℕ → Areas
 areas vs fs es bs = record { values = vs; flags = fs; ends = es; bytes = bs }
 
--- char and blob are bytes with ends, every other kind is one i64 a row
+-- char, blob and string are bytes with ends, every other kind is one i64 a row
 unfoldable pub isBytes : Kind → Bool
 isBytes (Fixed p) = false
 isBytes (Char w) = true
-isBytes Blob = true
+isBytes (Blob text) = true
 
 -- lent room too short for the whole answer, or a total above 4,294,967,295
 unfoldable pub short : Kind → List Row → Areas → Bool

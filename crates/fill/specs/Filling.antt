@@ -50,7 +50,7 @@ fillingBy p from b a (rows is t) =
 abbrev pub filling : Parts → Spot → List ℕ → ℕ → Areas → Filling
 filling p from b n a = fillingBy p from b a (stepsBy p from b n)
 
--- into the areas of a fixed kind, and into those of char and blob
+-- into the areas of a fixed kind, and into those of char, blob and string
 abbrev pub fixedFilling : Parts → Spot → List ℕ → ℕ → List ℤ → List ℕ → Filling
 fixedFilling p from b n vs fs = filling p from b n (areas vs fs [] [])
 

@@ -10,7 +10,7 @@ ghost use Rattle.part_rows.specs.PartRows.{Serves};
 ghost use Rattle.fill.specs.Areas.{areas};
 ghost use Rattle.fill.specs.Filling.{filling};
 
-// What writing some rows answers: 0, the bytes written of char and blob, and the place after the rows; or a refusal and the place
+// What writing some rows answers: 0, the bytes written of char, blob and string, and the place after the rows; or a refusal and the place
 // before them.
 pub struct Filled {
     pub number: u8,
@@ -56,6 +56,14 @@ pub fn write_rows(
             }
             fixed::give_items(p, parts, from, block, n, values, flags)
         }
-        Kind::Char(_) | Kind::Blob => texts::give_texts(parts, from, block, n, flags, ends, bytes),
+        Kind::Char(_) | Kind::Blob(_) => texts::give_texts(
+            parts,
+            from,
+            block,
+            n,
+            flags,
+            ends,
+            bytes,
+        ),
     }
 }

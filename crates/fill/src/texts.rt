@@ -1,4 +1,4 @@
-// Rows of char and blob: their flags, ends and bytes.
+// Rows of char, blob and string: their flags, ends and bytes.
 use crate::Filled;
 use crate::refused;
 use anatomy::Parts;
@@ -69,7 +69,7 @@ fn give_chars(
     }
 }
 
-// Rows of char and blob, weighed before they are written.
+// Rows of char, blob and string, weighed before they are written.
 fn give_weighed(
     parts: Parts,
     from: Spot,
@@ -120,7 +120,7 @@ fn next_by(coded: bool, from: Spot, next: Spot) -> Spot
     from
 }
 
-// Rows of char and blob.
+// Rows of char, blob and string.
 pub fn give_texts(
     parts: Parts,
     from: Spot,

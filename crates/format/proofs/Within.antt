@@ -46,7 +46,7 @@ no-bytes : (k : Kind) → plainOf k [] ≡ []
 unfolding plainOf joined endsFrom
 no-bytes (Fixed p) = refl
 no-bytes (Char w) = refl
-no-bytes Blob = refl
+no-bytes (Blob text) = refl
 
 pub none-within : (k : Kind) (e : Encoding) → withinLimits k e [] ≡ true
 unfolding withinLimits storedItems storedEntries blockOf nullableOf bitmapOf bitmapLength places runLengthOf runsOf dictionaryOf keyBlockOf keysOf entriesOf entriesAfter

@@ -46,13 +46,13 @@ cut (Fixed p) r = r
 cut (Char w) null = null
 cut (Char w) (int v) = int v
 cut (Char w) (bytes bs) = bytes (beforeNul bs)
-cut Blob r = r
+cut (Blob text) r = r
 
--- null becomes the default, empty for char and blob
+-- null becomes the default, empty for char, blob and string
 unfoldable pub filled : Kind → Row → Row
 filled (Fixed p) r = int (intIn r)
 filled (Char w) r = bytes (bytesIn r)
-filled Blob r = bytes (bytesIn r)
+filled (Blob text) r = bytes (bytesIn r)
 
 -- encodings 0 and 2 keep no nulls
 unfoldable pub storedRow : Kind → Encoding → Row → Row

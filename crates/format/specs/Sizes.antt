@@ -50,7 +50,7 @@ estimateOf k Dictionary rows = 8 + runLengthSize (plainSize i32) (keysOf rows) +
 unfoldable pub nextSize : Kind → Row → ℕ
 nextSize (Fixed p) next = widthOf p
 nextSize (Char w) next = w
-nextSize Blob next = length (bytesIn next) + 4
+nextSize (Blob text) next = length (bytesIn next) + 4
 
 -- item bytes that aren't empty, and so many bytes more than the estimate exceed the target
 unfoldable pub fullWith : ℕ → Kind → ℕ → List Row → Bool

@@ -17,6 +17,7 @@ use Rattle.encode.specs.declared.Primitive.{Primitive}
 use Rattle.encode.specs.declared.Kind.the-variants.{Fixed}
 use Rattle.plain.specs.Rows.{Row, intIn}
 use Rattle.plain.specs.Plain.{allOf, places, fixedAt, plainRow, leastBytes, endsGood}
+use Rattle.plain.proofs.TextItems.{all-places}
 use Rattle.plain.proofs.Places.{length-over, getD-over, over-same, over-shift}
 use Rattle.nullable.specs.Nullable.{bitAt, presence}
 use Rattle.nullable.specs.Blanks.{blankAt}
@@ -45,11 +46,6 @@ front-again {A} d xs ys n ex ey h =
 
 front-at : {A : Type 0} (d xs : List A) (n j : ℕ) (z : A) → length xs ≡ n → n ≤ length d → j < n → getD (sets d 0 xs) j z ≡ getD xs j z
 front-at d xs n j z e h l = rw (front-of d xs n e h) (List·getD-append xs (drop n d) z j (omega arith))
-
-all-places : (f : ℕ → Bool) (m n i : ℕ) → i + n ≤ m → ((j : ℕ) → j < m → f j ≡ true) → allOf f (places n i) ≡ true
-unfolding allOf places
-all-places f m zero i h e = refl
-all-places f m (suc n) i h e = rw (e i (omega arith)) (all-places f m n (suc i) (omega arith) e)
 
 -- an item that is there is good, where the kind has no field that can be wrong
 item-good :

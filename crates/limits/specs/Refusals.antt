@@ -5,7 +5,7 @@ use Prim.Native.Nat.{ℕ}
 abbrev pub COLUMN : ℕ
 COLUMN = 1
 
--- an appended char item longer than the width, or an integer outside its kind
+-- an appended char item longer than the width, a char or string item that isn't text, or an integer outside its kind
 abbrev pub ITEM : ℕ
 ITEM = 2
 
@@ -37,7 +37,7 @@ CUT = 10
 abbrev pub LENGTH : ℕ
 LENGTH = 11
 
--- a run count is cut or too large
+-- a run count is cut, too large or longer than needed
 abbrev pub VARINT : ℕ
 VARINT = 12
 
@@ -56,3 +56,7 @@ KEY = 15
 -- the run counts don't add up to the rows
 abbrev pub SUM : ℕ
 SUM = 16
+
+-- a stored char or string item isn't text
+abbrev pub TEXT : ℕ
+TEXT = 17

@@ -41,3 +41,6 @@ pub const KEY: u8 = 15;
 
 // The run counts don't add up to the rows.
 pub const SUM: u8 = 16;
+
+// A stored char or string item isn't text.
+pub const TEXT: u8 = 17;

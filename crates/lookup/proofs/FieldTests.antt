@@ -7,7 +7,7 @@ use mathlib.Core.List.{List, []}
 use lib.Dec.{ltb, eqb}
 use lib.ListN.{getD}
 use borrow.Author.Tests.{lt-ltb, le-ltb, eq-eqb, ne-eqb}
-use Rattle.encode.specs.declared.Kind.the-variants.{Blob}
+use Rattle.encode.specs.Kinds.{blob}
 use Rattle.lookup.specs.Held.{held, itemEnd, itemStart, fieldWrong}
 use Rattle.encode.proofs.Bools.{or-first, or-then, or-none, and-then, and-not}
 
@@ -26,7 +26,7 @@ unfolding itemStart
 start-next ends i q = let z : suc i ≡ i + 1 = omega arith in q ∙ ap (itemStart ends) z
 
 module _ (n len : ℕ) (ends : List ℕ) (i : ℕ) {e s : ℕ} (p : e ≡ itemEnd ends i) (q : s ≡ itemStart ends i) where
-  pub wrong-falls : e < s → true ≡ fieldWrong Blob n len (held [] ends []) i
+  pub wrong-falls : e < s → true ≡ fieldWrong blob n len (held [] ends []) i
   unfolding fieldWrong
   wrong-falls h = or-first _ (sym (or-first _ (sym (sym (lt-ltb e s h) ∙ ap (ltb e) q ∙ ap (λ (x : ℕ). ltb x (itemStart ends i)) p))))
 
@@ -34,7 +34,7 @@ module _ (n len : ℕ) (ends : List ℕ) (i : ℕ) {e s : ℕ} (p : e ≡ itemEn
     rises : ltb (itemEnd ends i) (itemStart ends i) ≡ false
     rises = sym (ap (ltb e) q ∙ ap (λ (x : ℕ). ltb x (itemStart ends i)) p) ∙ le-ltb e s h
 
-    pub wrong-passes : len < e → true ≡ fieldWrong Blob n len (held [] ends []) i
+    pub wrong-passes : len < e → true ≡ fieldWrong blob n len (held [] ends []) i
     unfolding fieldWrong
     wrong-passes g = or-first _ (sym (or-then rises (sym (lt-ltb len e g) ∙ ap (ltb len) p)))
 
@@ -42,13 +42,13 @@ module _ (n len : ℕ) (ends : List ℕ) (i : ℕ) {e s : ℕ} (p : e ≡ itemEn
       inside : ltb len (itemEnd ends i) ≡ false
       inside = sym (ap (ltb len) p) ∙ le-ltb len e g
 
-      pub wrong-last : i + 1 ≡ n → not (eqb e len) ≡ fieldWrong Blob n len (held [] ends []) i
+      pub wrong-last : i + 1 ≡ n → not (eqb e len) ≡ fieldWrong blob n len (held [] ends []) i
       unfolding fieldWrong
       wrong-last z =
           or-then (or-none rises inside)
           (ap (λ (x : ℕ). not (eqb x len)) p ∙ and-then {x = true} _ (sym (eq-eqb (suc i) n (omega (arith, z)))) refl)
 
-      pub wrong-not : (i + 1 ≡ n → ⊥) → false ≡ fieldWrong Blob n len (held [] ends []) i
+      pub wrong-not : (i + 1 ≡ n → ⊥) → false ≡ fieldWrong blob n len (held [] ends []) i
       unfolding fieldWrong
       wrong-not z =
           or-then (or-none rises inside) (and-not {x = false} _ (sym (ne-eqb (suc i) n (λ y. z (omega (arith, y))))) refl)

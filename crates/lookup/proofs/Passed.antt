@@ -92,20 +92,20 @@ module _ (k : Kind) (n len : ℕ) (h : Held) (row : Row) (i : ℕ) where
 
 -- two that hold the same items with the same fields
 look-alike :
-    (k : Kind) (n len len′ : ℕ) (h h′ : Held) (row : Row) → ((i : ℕ) → fieldWrong k n len h i ≡ fieldWrong k n len′ h′ i)
-    → ((i : ℕ) → heldRow k h i ≡ heldRow k h′ i) → (is : List ℕ) → lookFrom k n len h row is ≡ lookFrom k n len′ h′ row is
+    (k k′ : Kind) (n len len′ : ℕ) (h h′ : Held) (row : Row) → ((i : ℕ) → fieldWrong k n len h i ≡ fieldWrong k′ n len′ h′ i)
+    → ((i : ℕ) → heldRow k h i ≡ heldRow k′ h′ i) → (is : List ℕ) → lookFrom k n len h row is ≡ lookFrom k′ n len′ h′ row is
 unfolding lookFrom
-look-alike k n len len′ h h′ row w r [] = refl
-look-alike k n len len′ h h′ row w r (i ∷ is) =
-    ap (λ (t : Bool). cond t Bad (cond (same row (heldRow k h i)) (Entry i) (lookFrom k n len h row is))) (w i)
-    ∙ ap (λ (y : Row). cond (fieldWrong k n len′ h′ i) Bad (cond (same row y) (Entry i) (lookFrom k n len h row is))) (r i)
-    ∙ ap (λ (z : Looked). cond (fieldWrong k n len′ h′ i) Bad (cond (same row (heldRow k h′ i)) (Entry i) z)) (look-alike k n len len′ h h′ row w r is)
+look-alike k k′ n len len′ h h′ row w r [] = refl
+look-alike k k′ n len len′ h h′ row w r (i ∷ is) =
+    ap (λ (x : Bool). cond x Bad (cond (same row (heldRow k h i)) (Entry i) (lookFrom k n len h row is))) (w i)
+    ∙ ap (λ (y : Row). cond (fieldWrong k′ n len′ h′ i) Bad (cond (same row y) (Entry i) (lookFrom k n len h row is))) (r i)
+    ∙ ap (λ (z : Looked). cond (fieldWrong k′ n len′ h′ i) Bad (cond (same row (heldRow k′ h′ i)) (Entry i) z)) (look-alike k k′ n len len′ h h′ row w r is)
 
 pub up-alike :
-    (k : Kind) (n len len′ : ℕ) (h h′ : Held) (row : Row) → ((i : ℕ) → fieldWrong k n len h i ≡ fieldWrong k n len′ h′ i)
-    → ((i : ℕ) → heldRow k h i ≡ heldRow k h′ i) → lookUp k n len h row ≡ lookUp k n len′ h′ row
+    (k k′ : Kind) (n len len′ : ℕ) (h h′ : Held) (row : Row) → ((i : ℕ) → fieldWrong k n len h i ≡ fieldWrong k′ n len′ h′ i)
+    → ((i : ℕ) → heldRow k h i ≡ heldRow k′ h′ i) → lookUp k n len h row ≡ lookUp k′ n len′ h′ row
 unfolding lookUp
-up-alike k n len len′ h h′ row w r = look-alike k n len len′ h h′ row w r _
+up-alike k k′ n len len′ h h′ row w r = look-alike k k′ n len len′ h h′ row w r _
 
 -- no field of a fixed kind is wrong: the lookup is the first item of the value
 from-first : (p : Primitive) (n len : ℕ) (h : Held) (v : ℤ) (is : List ℕ)

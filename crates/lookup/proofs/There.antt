@@ -12,7 +12,7 @@ use lib.ListN.{length, take, drop, getD}
 use Rattle.encode.specs.declared.Kind.{Kind}
 use Rattle.encode.specs.declared.Kind.the-variants.{Fixed, Char, Blob}
 use Rattle.encode.specs.declared.Primitive.{Primitive}
-use Rattle.encode.specs.Kinds.{widthOf}
+use Rattle.encode.specs.Kinds.{widthOf, blob}
 use Rattle.limits.specs.Limits.{MOST_ITEMS}
 use Rattle.plain.specs.Rows.{bytes, valueOf, sameInt, sameBytes, same}
 use Rattle.plain.specs.Plain.{fixedAt}
@@ -27,7 +27,7 @@ use Rattle.lookup.proofs.Passed.{up-alike, up-first}
 
 -- ---- an item whose fields are good is there
 pub blob-there : (n len : ℕ) (h : Held) (i : ℕ) → i < n → n ≤ length (h .ends) → len ≤ length (h .items)
-    → fieldWrong Blob n len h i ≡ false → ItemThere Blob h i
+    → fieldWrong blob n len h i ≡ false → ItemThere blob h i
 unfolding ItemThere fieldWrong
 blob-there n len h i l f b w =
     let falls = ltb (itemEnd (h .ends) i) (itemStart (h .ends) i) in
@@ -46,20 +46,20 @@ item-there (Char w) n len h i l m f b g =
     let r = item-room i n w (length (h .items)) l b in
     let q = ltb-false w (getD (h .lens) i 0) g in
     (omega arith, omega arith, omega arith)
-item-there Blob n len h i l m f b w = blob-there n len h i l f b w
+item-there (Blob text) n len h i l m f b w = blob-there n len h i l f b w
 
 -- the fields are not in the items
 pub fields-apart : (k : Kind) (n : ℕ) (is es ls : List ℕ) → FieldsThere k n (held is es ls) → FieldsThere k n (held [] es ls)
 unfolding FieldsThere
 fields-apart (Fixed p) n is es ls h = tt
 fields-apart (Char w) n is es ls h = h
-fields-apart Blob n is es ls h = h
+fields-apart (Blob text) n is es ls h = h
 
 pub wrong-apart : (k : Kind) (n len : ℕ) (is es ls : List ℕ) (i : ℕ) → fieldWrong k n len (held [] es ls) i ≡ fieldWrong k n len (held is es ls) i
 unfolding fieldWrong
 wrong-apart (Fixed p) n len is es ls i = refl
 wrong-apart (Char w) n len is es ls i = refl
-wrong-apart Blob n len is es ls i = refl
+wrong-apart (Blob text) n len is es ls i = refl
 
 -- ---- a fixed kind
 module _ {k : Kind} (p : Primitive) (e : k ≡ Fixed p) where
@@ -110,21 +110,21 @@ module _ {k : Kind} (w : ℕ) (e : k ≡ Char w) where
     unfolding valueOf fieldWrong heldRow
     char-up n len {x} q =
         subst (λ (j : Kind). x ≡ lookUp j n len (held is es ls) (valueOf j v bs)) (sym e)
-        (q ∙ up-alike (Char w) n 0 len (held is [] ls) (held is es ls) (bytes bs) (λ i. refl) (λ i. refl))
+        (q ∙ up-alike (Char w) (Char w) n 0 len (held is [] ls) (held is es ls) (bytes bs) (λ i. refl) (λ i. refl))
 
 -- ---- blob, which has no lengths
 -- from the start and the end that the code reads
 pub blob-read :
     (is es : List ℕ) (i : ℕ) (bs : List ℕ) {a b : ℕ} → a ≡ itemStart es i → b ≡ itemEnd es i
-    → {x : Bool} → x ≡ sameBytes bs (take (b - a) (drop a is)) → x ≡ same (bytes bs) (heldRow Blob (held is es []) i)
+    → {x : Bool} → x ≡ sameBytes bs (take (b - a) (drop a is)) → x ≡ same (bytes bs) (heldRow blob (held is es []) i)
 unfolding same heldRow
 blob-read is es i bs {a} {b} p q h =
     h
     ∙ ap (λ (m : ℕ). sameBytes bs (take (m - a) (drop a is))) q
     ∙ ap (λ (m : ℕ). sameBytes bs (take (itemEnd es i - m) (drop m is))) p
 
-module _ {k : Kind} (e : k ≡ Blob) where
-  pub blob-item : (is es ls : List ℕ) (i : ℕ) → ItemThere k (held is es ls) i → ItemThere Blob (held is es []) i
+module _ {k : Kind} {text : Bool} (e : k ≡ Blob text) where
+  pub blob-item : (is es ls : List ℕ) (i : ℕ) → ItemThere k (held is es ls) i → ItemThere blob (held is es []) i
   unfolding ItemThere
   blob-item is es ls i t = subst (λ (j : Kind). ItemThere j (held is es ls) i) e t
 
@@ -136,17 +136,17 @@ module _ {k : Kind} (e : k ≡ Blob) where
   unfolding BytesThere
   blob-bytes n len h b = subst (λ (j : Kind). BytesThere j n len h) e b
 
-  pub blob-wrong : (n len : ℕ) (is es ls : List ℕ) (i : ℕ) {x : Bool} → x ≡ fieldWrong Blob n len (held [] es []) i → x ≡ fieldWrong k n len (held is es ls) i
+  pub blob-wrong : (n len : ℕ) (is es ls : List ℕ) (i : ℕ) {x : Bool} → x ≡ fieldWrong blob n len (held [] es []) i → x ≡ fieldWrong k n len (held is es ls) i
   unfolding fieldWrong
   blob-wrong n len is es ls i {x} q = subst (λ (j : Kind). x ≡ fieldWrong j n len (held is es ls) i) (sym e) q
 
   module _ (is es ls : List ℕ) (v : ℤ) (bs : List ℕ) where
-    pub blob-same : (i : ℕ) {x : Bool} → x ≡ same (bytes bs) (heldRow Blob (held is es []) i) → x ≡ same (valueOf k v bs) (heldRow k (held is es ls) i)
+    pub blob-same : (i : ℕ) {x : Bool} → x ≡ same (bytes bs) (heldRow blob (held is es []) i) → x ≡ same (valueOf k v bs) (heldRow k (held is es ls) i)
     unfolding valueOf heldRow
     blob-same i {x} q = subst (λ (j : Kind). x ≡ same (valueOf j v bs) (heldRow j (held is es ls) i)) (sym e) q
 
-    pub blob-up : (n len : ℕ) {x : Looked} → x ≡ lookUp Blob n len (held is es []) (bytes bs) → x ≡ lookUp k n len (held is es ls) (valueOf k v bs)
+    pub blob-up : (n len : ℕ) {x : Looked} → x ≡ lookUp blob n len (held is es []) (bytes bs) → x ≡ lookUp k n len (held is es ls) (valueOf k v bs)
     unfolding valueOf fieldWrong heldRow
     blob-up n len {x} q =
         subst (λ (j : Kind). x ≡ lookUp j n len (held is es ls) (valueOf j v bs)) (sym e)
-        (q ∙ up-alike Blob n len len (held is es []) (held is es ls) (bytes bs) (λ i. refl) (λ i. refl))
+        (q ∙ up-alike blob (Blob text) n len len (held is es []) (held is es ls) (bytes bs) (λ i. refl) (λ i. refl))

@@ -32,13 +32,13 @@ itemStart ends (suc i) = getD ends i 0
 unfoldable pub heldRow : Kind → Held → ℕ → Row
 heldRow (Fixed p) h i = int (fixedAt p (h .items) i)
 heldRow (Char w) h i = bytes (take (getD (h .lens) i 0) (drop (i * w) (h .items)))
-heldRow Blob h i = bytes (take (itemEnd (h .ends) i - itemStart (h .ends) i) (drop (itemStart (h .ends) i) (h .items)))
+heldRow (Blob text) h i = bytes (take (itemEnd (h .ends) i - itemStart (h .ends) i) (drop (itemStart (h .ends) i) (h .items)))
 
 -- a field of item i of n is wrong: an end that falls or passes the items, a last end of all that isn't the item bytes, a length above the width
 unfoldable pub fieldWrong : Kind → ℕ → ℕ → Held → ℕ → Bool
 fieldWrong (Fixed p) n len h i = false
 fieldWrong (Char w) n len h i = ltb w (getD (h .lens) i 0)
-fieldWrong Blob n len h i =
+fieldWrong (Blob text) n len h i =
     ltb (itemEnd (h .ends) i) (itemStart (h .ends) i)
     || ltb len (itemEnd (h .ends) i)
     || eqb (suc i) n && not (eqb (itemEnd (h .ends) i) len)

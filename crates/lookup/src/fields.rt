@@ -4,7 +4,7 @@ ghost use mathlib.Core.Path.{_≡_};
 ghost use mathlib.Core.List.{[]};
 ghost use Prim.Native.Nat.{_≤_, _<_, _^_};
 ghost use lib.ListN.{length};
-ghost use Rattle.encode.specs.declared.Kind.the-variants.{Blob};
+ghost use Rattle.encode.specs.Kinds.{blob};
 ghost use Rattle.lookup.specs.Held.{held, itemEnd, itemStart, fieldWrong};
 ghost use Rattle.lookup.specs.Asking.{FieldsThere};
 
@@ -36,7 +36,7 @@ pub fn start_in(ends: &[u32], i: usize) -> usize
 // Whether the end of blob item `i` of `n`, which starts at `from`, is wrong, where the items have `len` bytes.
 pub fn blob_wrong(n: usize, len: usize, ends: &[u32], i: usize, from: usize) -> bool
     requires { ⌜ (i < n) × (n ≤ length (now ends)) × (from ≡ itemStart (now ends) i) ⌝ }
-    ensures { λ r. ⌜ r ≡ fieldWrong Blob n len (held [] (now (ends .entry)) []) i ⌝ }
+    ensures { λ r. ⌜ r ≡ fieldWrong blob n len (held [] (now (ends .entry)) []) i ⌝ }
 {
     let end = end_in(ends, i);
     if end < from {
@@ -59,6 +59,6 @@ pub fn field_wrong(kind: Kind, n: usize, len: usize, ends: &[u32], lens: &[u8], 
     match kind {
         Kind::Fixed(_) => false,
         Kind::Char(w) => w < lens[i],
-        Kind::Blob => blob_wrong(n, len, ends, i, start_in(ends, i)),
+        Kind::Blob(_) => blob_wrong(n, len, ends, i, start_in(ends, i)),
     }
 }

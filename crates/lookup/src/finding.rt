@@ -8,7 +8,8 @@ ghost use mathlib.Core.Path.{_≡_};
 ghost use mathlib.Core.List.{[]};
 ghost use Prim.Native.Nat.{_+_, _*_, _≤_};
 ghost use lib.ListN.{length, take, drop};
-ghost use Rattle.encode.specs.declared.Kind.the-variants.{Char, Blob};
+ghost use Rattle.encode.specs.Kinds.{blob};
+ghost use Rattle.encode.specs.declared.Kind.the-variants.{Char};
 ghost use Rattle.encode.specs.Kinds.{widthOf, trueOrFalse};
 ghost use Rattle.limits.specs.Limits.{MOST_ITEMS};
 ghost use Rattle.plain.specs.Rows.{valueOf, bytes, same, sameBytes};
@@ -45,8 +46,8 @@ fn same_char(w: u8, items: &[u8], lens: &[u8], i: usize, item: &[u8]) -> bool
 }
 
 fn same_blob(items: &[u8], ends: &[u32], i: usize, from: usize, item: &[u8]) -> bool
-    requires { ⌜ ItemThere Blob (held (now items) (now ends) []) i × (from ≡ itemStart (now ends) i) ⌝ }
-    ensures { λ r. ⌜ r ≡ same (bytes (now (item .entry))) (heldRow Blob (held (now (items .entry)) (now (ends .entry)) []) i) ⌝ }
+    requires { ⌜ ItemThere blob (held (now items) (now ends) []) i × (from ≡ itemStart (now ends) i) ⌝ }
+    ensures { λ r. ⌜ r ≡ same (bytes (now (item .entry))) (heldRow blob (held (now (items .entry)) (now (ends .entry)) []) i) ⌝ }
 {
     same_bytes(items, from, fields::end_in(ends, i) - from, item)
 }
@@ -67,7 +68,7 @@ pub fn same_item(
     match kind {
         Kind::Fixed(p) => plain::value_at(p, items, i) == value,
         Kind::Char(w) => same_char(w, items, lens, i, item),
-        Kind::Blob => same_blob(items, ends, i, fields::start_in(ends, i), item),
+        Kind::Blob(_) => same_blob(items, ends, i, fields::start_in(ends, i), item),
     }
 }
 
@@ -176,7 +177,7 @@ fn find_char(w: u8, items: &[u8], lens: &[u8], n: usize, item: &[u8]) -> Looked
 // The same of blob items, of `len` bytes in all; or a wrong end up to there.
 fn find_blob(items: &[u8], len: usize, ends: &[u32], n: usize, item: &[u8]) -> Looked
     requires { ⌜ (n ≤ length (now ends)) × (len ≤ length (now items)) ⌝ }
-    ensures { λ r. ⌜ r ≡ lookUp Blob n len (held (now (items .entry)) (now (ends .entry)) []) (bytes (now (item .entry))) ⌝ }
+    ensures { λ r. ⌜ r ≡ lookUp blob n len (held (now (items .entry)) (now (ends .entry)) []) (bytes (now (item .entry))) ⌝ }
 {
     let mut i = 0;
     let mut from = 0;
@@ -210,6 +211,6 @@ pub fn look_up(
     match kind {
         Kind::Fixed(p) => Looked::Entry(find_fixed(p, items, n, value)),
         Kind::Char(w) => find_char(w, items, lens, n, item),
-        Kind::Blob => find_blob(items, len, ends, n, item),
+        Kind::Blob(_) => find_blob(items, len, ends, n, item),
     }
 }

@@ -29,9 +29,9 @@ module _ (k : Kind) (n len : ℕ) where
       go : (k : Kind) → OneOf (0 ∷ 1 ∷ []) (tagOf kind-type k) → len ≡ plainBytes k n len
       go (Fixed p) h = refl
       go (Char w) h = refl
-      go Blob h = absurd (miss (0 ∷ 1 ∷ []) 2 tt h)
+      go (Blob text) h = absurd (miss (0 ∷ 1 ∷ []) 2 tt h)
 
-  pub plain-blob : k ≡ Blob → 4 * n + len ≡ plainBytes k n len
+  pub plain-blob : {text : Bool} → k ≡ Blob text → 4 * n + len ≡ plainBytes k n len
   unfolding plainBytes
   plain-blob q = subst (λ (j : Kind). 4 * n + len ≡ plainBytes j n len) (sym q) refl
 
@@ -97,7 +97,7 @@ some-stored (Char w) n len h g q =
     let e = eqb-true len (n * w) (not-false _ h) in
     let z : n * w ≡ 0 * w = ap (λ (m : ℕ). m * w) q in
     omega arith
-some-stored Blob n len h g q =
+some-stored (Blob text) n len h g q =
     let e = eqb-true len 0 (not-false _ (and-then {x = true} _ (sym (eq-eqb n 0 q)) refl ∙ h)) in
     omega arith
 
@@ -105,7 +105,7 @@ plain-least : (k : Kind) (n len : ℕ) → len ≤ plainBytes k n len
 unfolding plainBytes
 plain-least (Fixed p) n len = omega arith
 plain-least (Char w) n len = omega arith
-plain-least Blob n len = omega arith
+plain-least (Blob text) n len = omega arith
 
 pub inner-least : (k : Kind) (e : Encoding) (r : Counted) → r .bytes ≤ innerBytes k e r
 unfolding innerBytes

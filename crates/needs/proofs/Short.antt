@@ -26,7 +26,7 @@ module _ (k : Kind) (n : ℕ) (m : Room) where
   unfolding fieldsShort
   lens-short w q = ap (λ (j : Kind). fieldsShort j n m) (sym q)
 
-  pub ends-short : k ≡ Blob → ltb (m .ends) n ≡ fieldsShort k n m
+  pub ends-short : {text : Bool} → k ≡ Blob text → ltb (m .ends) n ≡ fieldsShort k n m
   unfolding fieldsShort
   ends-short q = ap (λ (j : Kind). fieldsShort j n m) (sym q)
 

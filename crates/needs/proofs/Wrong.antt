@@ -38,11 +38,11 @@ module _ (k : Kind) (n len : ℕ) where
   unfolding bytesWrong
   char-wrong w q = ap (λ (j : Kind). bytesWrong j n len) (sym q)
 
-  pub blob-none : k ≡ Blob → n ≡ 0 → not (eqb len 0) ≡ bytesWrong k n len
+  pub blob-none : {text : Bool} → k ≡ Blob text → n ≡ 0 → not (eqb len 0) ≡ bytesWrong k n len
   unfolding bytesWrong
   blob-none q h = and-then {x = true} _ (sym (eq-eqb n 0 h)) refl ∙ ap (λ (j : Kind). bytesWrong j n len) (sym q)
 
-  pub blob-some : k ≡ Blob → (n ≡ 0 → ⊥) → false ≡ bytesWrong k n len
+  pub blob-some : {text : Bool} → k ≡ Blob text → (n ≡ 0 → ⊥) → false ≡ bytesWrong k n len
   unfolding bytesWrong
   blob-some q h = and-not {x = false} _ (sym (ne-eqb n 0 h)) refl ∙ ap (λ (j : Kind). bytesWrong j n len) (sym q)
 

@@ -47,7 +47,7 @@ storedBy e r = cond (keyed e) (r .entries) (cond (coded e) (r .runs) (r .rows))
 unfoldable pub plainBytes : Kind → ℕ → ℕ → ℕ
 plainBytes (Fixed p) n len = len
 plainBytes (Char w) n len = len
-plainBytes Blob n len = 4 * n + len
+plainBytes (Blob text) n len = 4 * n + len
 
 -- that block, or a nullable one: with its bitmap and the four bytes of the trailer
 unfoldable pub innerBytes : Kind → Encoding → Counted → ℕ
@@ -80,7 +80,7 @@ pastLimits k e r = countsPast e r || ltb MOST_BYTES (finishedBytes k e r)
 unfoldable pub bytesWrong : Kind → ℕ → ℕ → Bool
 bytesWrong (Fixed p) n len = not (eqb len (n * widthOf p))
 bytesWrong (Char w) n len = not (eqb len (n * w))
-bytesWrong Blob n len = eqb n 0 && not (eqb len 0)
+bytesWrong (Blob text) n len = eqb n 0 && not (eqb len 0)
 
 -- the counts' byte length has no area and no need: it is held to the limit alone, also with no runs
 unfoldable pub recordWrong : Kind → Encoding → Counted → Bool
@@ -91,7 +91,7 @@ recordWrong k e r = coded e && ltb MOST_BYTES (r .counts) || bytesWrong k (store
 unfoldable pub fieldsShort : Kind → ℕ → Room → Bool
 fieldsShort (Fixed p) n m = false
 fieldsShort (Char w) n m = ltb (m .lens) n
-fieldsShort Blob n m = ltb (m .ends) n
+fieldsShort (Blob text) n m = ltb (m .ends) n
 
 -- one slot a run; one i32 slot a key run
 unfoldable pub runsShort : Encoding → Counted → Room → Bool

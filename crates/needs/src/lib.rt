@@ -80,7 +80,7 @@ pub fn plain_bytes(kind: Kind, n: usize, len: usize) -> usize
 {
     match kind {
         Kind::Fixed(_) | Kind::Char(_) => len,
-        Kind::Blob => 4 * n + len,
+        Kind::Blob(_) => 4 * n + len,
     }
 }
 
@@ -190,7 +190,7 @@ pub fn bytes_wrong(kind: Kind, n: usize, len: usize) -> bool
     match kind {
         Kind::Fixed(p) => len != n * p.width(),
         Kind::Char(w) => len != n * (w as usize),
-        Kind::Blob => {
+        Kind::Blob(_) => {
             if n == 0 {
                 return len != 0;
             }
@@ -266,7 +266,7 @@ fn fields_short(kind: Kind, n: usize, room: Room) -> bool
     match kind {
         Kind::Fixed(_) => false,
         Kind::Char(_) => room.lens < n,
-        Kind::Blob => room.ends < n,
+        Kind::Blob(_) => room.ends < n,
     }
 }
 

@@ -30,7 +30,7 @@ present : (k : Kind) (m : ℕ) (items : List ℕ) (i : ℕ) → presence (plainR
 unfolding plainRow presence
 present (Fixed p) m items i = refl
 present (Char w) m items i = refl
-present Blob m items i = refl
+present (Blob text) m items i = refl
 
 bare-flag : (s : Source) (marks items : List ℕ) → s .marks ≡ Bare → (i : ℕ) → flagBy s marks items i ≡ 1
 unfolding flagBy rowBy shownBy entryRow

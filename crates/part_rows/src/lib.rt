@@ -121,7 +121,7 @@ fn write_marks(parts: Parts, from: Spot, block: &[u8], n: usize, flags: &mut [u8
     );
 }
 
-// Writes the flags, the ends and the bytes of the next `n` rows of char or blob.
+// Writes the flags, the ends and the bytes of the next `n` rows of char, blob or string.
 pub fn write_texts(
     parts: Parts,
     from: Spot,

@@ -6,12 +6,14 @@ use mathlib.Core.Bool.{true}
 use mathlib.Core.List.{List, [], _∷_, _++_}
 use mathlib.Core.Path.{_≡_, sym}
 use lib.ListN.{length, replicate, length-append, length-replicate}
+use lib.Dec.{leb}
 use borrow.Author.Tests.{leb-true}
 use Rattle.encode.specs.Kinds.{widthOf}
 use Rattle.encode.specs.declared.Primitive.{Primitive}
 use Rattle.encode.specs.declared.Kind.the-variants.{Fixed, Char}
-use Rattle.encode.proofs.Bools.{clash}
+use Rattle.encode.proofs.Bools.{clash, both}
 use Rattle.encode.proofs.RoundTrip.{item-length}
+use Rattle.utf8.specs.Utf8.{isText}
 use Rattle.plain.specs.Each.{Each}
 use Rattle.plain.specs.Rows.{Row, null, int, bytes, intIn, bytesIn, fits}
 use Rattle.plain.specs.Plain.{joined, itemOf}
@@ -51,7 +53,7 @@ pub char-short : (w : ℕ) (r : Row) → fits (Char w) r ≡ true → length (by
 unfolding fits bytesIn
 char-short w null h = omega arith
 char-short w (int v) h = clash (sym h)
-char-short w (bytes bs) h = leb-true (length bs) w h
+char-short w (bytes bs) h = leb-true (length bs) w (both (leb (length bs) w) (isText bs) h .0)
 
 char-item : (w : ℕ) (r : Row) → fits (Char w) r ≡ true → Wide (itemOf (Char w)) w r
 unfolding itemOf

@@ -8,10 +8,10 @@ use native.Mathlib.Numerals.{add-one}
 use native.Mathlib.Omega.{arith}
 use borrow.Author.Tests.{lt-ltb, le-ltb, le-leb, lt-leb, eq-eqb, ne-eqb}
 use lib.ListN.{length}
-use Rattle.encode.specs.declared.Kind.the-variants.{Blob}
+use Rattle.encode.specs.Kinds.{blob}
 use Rattle.limits.specs.Refusals.{CUT, LENGTH, ENDS}
 use Rattle.plain.specs.Rules.{firstOf}
-use Rattle.plain.specs.Plain.{places, endsFrom, endAt, startAt, endsOf, rising, lastOf, plainNumber}
+use Rattle.plain.specs.Plain.{places, endsFrom, endAt, startAt, endsOf, rising, lastOf, lengthsNumber}
 
 -- ---- an end an item
 pub length-ends : (at : ℕ) (xs : List (List ℕ)) → length (endsFrom at xs) ≡ length xs
@@ -31,21 +31,21 @@ start-later s (suc i) h = let e : suc i - 1 ≡ i = omega arith in ap (endAt s) 
 
 -- ---- the plain rules of n blobs
 module _ (n : ℕ) (s : List ℕ) where
-  pub ends-missing : length s < 4 * n → CUT ≡ plainNumber Blob n s
-  unfolding plainNumber firstOf
+  pub ends-missing : length s < 4 * n → CUT ≡ lengthsNumber blob n s
+  unfolding lengthsNumber firstOf
   ends-missing h = simp (lt-ltb (length s) (4 * n) h)
 
   module _ (h : 4 * n ≤ length s) where
-    pub ends-wrong : rising 0 (length s - 4 * n) (endsOf n s) ≡ false → ENDS ≡ plainNumber Blob n s
-    unfolding plainNumber firstOf
+    pub ends-wrong : rising 0 (length s - 4 * n) (endsOf n s) ≡ false → ENDS ≡ lengthsNumber blob n s
+    unfolding lengthsNumber firstOf
     ends-wrong r = simp (le-ltb (length s) (4 * n) h, r)
 
-    pub last-other : rising 0 (length s - 4 * n) (endsOf n s) ≡ true → (lastOf 0 (endsOf n s) ≡ length s - 4 * n → ⊥) → LENGTH ≡ plainNumber Blob n s
-    unfolding plainNumber firstOf
+    pub last-other : rising 0 (length s - 4 * n) (endsOf n s) ≡ true → (lastOf 0 (endsOf n s) ≡ length s - 4 * n → ⊥) → LENGTH ≡ lengthsNumber blob n s
+    unfolding lengthsNumber firstOf
     last-other r l = simp (le-ltb (length s) (4 * n) h, r, ne-eqb (lastOf 0 (endsOf n s)) (length s - 4 * n) l)
 
-    pub last-same : rising 0 (length s - 4 * n) (endsOf n s) ≡ true → lastOf 0 (endsOf n s) ≡ length s - 4 * n → 0 ≡ plainNumber Blob n s
-    unfolding plainNumber firstOf
+    pub last-same : rising 0 (length s - 4 * n) (endsOf n s) ≡ true → lastOf 0 (endsOf n s) ≡ length s - 4 * n → 0 ≡ lengthsNumber blob n s
+    unfolding lengthsNumber firstOf
     last-same r l = simp (le-ltb (length s) (4 * n) h, r, eq-eqb (lastOf 0 (endsOf n s)) (length s - 4 * n) l)
 
 -- ---- the loop over the ends: what is left to look at decides

@@ -7,4 +7,5 @@ pub mod Ends
 pub mod Chars
 pub mod Ranges
 pub mod Numbers
+pub mod TextItems
 pub mod Same

@@ -1,6 +1,6 @@
 -- Where the bytes of an item lie, for each kind that a match found, and what the rule of the ends says of one item. Assumes nothing.
 use mathlib.Core.Path.{_≡_, sym, subst}
-use mathlib.Core.Bool.{true, false, _&&_, and-eq-true-iff}
+use mathlib.Core.Bool.{Bool, true, false, _&&_, and-eq-true-iff}
 use mathlib.Core.List.{List}
 use Prim.Native.Nat.{ℕ, _+_, _-_, _*_, _≤_, _<_}
 use native.Mathlib.Omega.{arith}
@@ -8,6 +8,7 @@ use borrow.Author.Tests.{leb-true, le-leb, lt-leb}
 use lib.Dec.{leb}
 use lib.ListN.{length, take, drop}
 use Rattle.encode.specs.declared.Kind.{Kind}
+use Rattle.encode.specs.Kinds.{blob}
 use Rattle.encode.specs.declared.Kind.the-variants.{Char, Blob}
 use Rattle.plain.specs.Rows.{bytesIn}
 use Rattle.plain.specs.Plain.{endAt, startAt, charAt, blobAt, plainRow, leastBytes, endsGood}
@@ -23,8 +24,15 @@ module _ {k j : Kind} (e : k ≡ j) (n : ℕ) (s : List ℕ) where
   pub least-found : leastBytes k n ≤ length s → leastBytes j n ≤ length s
   least-found h = subst (λ (q : Kind). leastBytes q n ≤ length s) e h
 
-  pub ends-found : (i : ℕ) → endsGood k n s i ≡ true → endsGood j n s i ≡ true
-  ends-found i h = subst (λ (q : Kind). endsGood q n s i ≡ true) e h
+-- blob and string are laid out alike
+module _ {k : Kind} {text : Bool} (e : k ≡ Blob text) (n : ℕ) (s : List ℕ) where
+  pub blob-least : leastBytes k n ≤ length s → leastBytes blob n ≤ length s
+  unfolding leastBytes
+  blob-least h = subst (λ (j : Kind). leastBytes j n ≤ length s) e h
+
+  pub blob-good : (i : ℕ) → endsGood k n s i ≡ true → endsGood blob n s i ≡ true
+  unfolding endsGood
+  blob-good i h = subst (λ (j : Kind). endsGood j n s i ≡ true) e h
 
 module _ (w n : ℕ) (s : List ℕ) (i : ℕ) (least : leastBytes (Char w) n ≤ length s) (h : i < n) where
   pub char-room : i * w + w ≤ length s
@@ -35,7 +43,7 @@ module _ (w n : ℕ) (s : List ℕ) (i : ℕ) (least : leastBytes (Char w) n ≤
   unfolding plainRow bytesIn
   char-lies r c l = let b : i * w + w ≤ length s = char-room in (omega arith, rw c (take-char w s i))
 
-module _ {k : Kind} (n : ℕ) (s : List ℕ) (e : k ≡ Blob) (least : leastBytes k n ≤ length s) where
+module _ {k : Kind} {text : Bool} (n : ℕ) (s : List ℕ) (e : k ≡ Blob text) (least : leastBytes k n ≤ length s) where
   pub blob-room : 4 * n ≤ length s
   unfolding leastBytes
   blob-room = subst (λ (j : Kind). leastBytes j n ≤ length s) e least

@@ -1,4 +1,6 @@
 // Plain blocks of every kind: reading.
+mod texts;
+
 use encode::BoolKind;
 use encode::DateKind;
 use encode::I16Kind;
@@ -16,10 +18,10 @@ ghost use Prim.Native.Nat.{_+_, _*_, _<_, _≤_, _^_};
 ghost use lib.ListN.{length, take, drop};
 ghost use lib.Seq.{sets};
 ghost use Rattle.encode.specs.Bytes.{number, inEight};
-ghost use Rattle.encode.specs.Kinds.{widthOf};
+ghost use Rattle.encode.specs.Kinds.{widthOf, blob};
 ghost use Rattle.limits.specs.Limits.{MOST_ITEMS, isWidth};
 ghost use Rattle.plain.specs.Rows.{bytesIn};
-ghost use Rattle.plain.specs.Plain.{places, fixedAt, plainRow, plainNumber, leastBytes, endsGood, endAt, startAt, charAt};
+ghost use Rattle.plain.specs.Plain.{places, fixedAt, plainRow, lengthsNumber, plainNumber, leastBytes, endsGood, endAt, startAt, charAt};
 
 // ---- numbers and items at a place
 
@@ -200,7 +202,7 @@ pub fn values(p: Primitive, s: &[u8], from: usize, n: usize, out: &mut [i64])
     }
 }
 
-// ---- char and blob
+// ---- char, blob and string
 
 // Where blob item `i` starts in the data, and where it ends.
 pub fn start_at(s: &[u8], i: usize) -> usize
@@ -254,8 +256,8 @@ pub fn char_at(w: usize, n: usize, s: &[u8], i: usize) -> Range
 }
 
 pub fn blob_at(n: usize, s: &[u8], i: usize) -> Range
-    requires { ⌜ (i < n) × (n ≤ MOST_ITEMS) × (leastBytes Kind.Blob n ≤ length (now s)) × (endsGood Kind.Blob n (now s) i ≡ true) ⌝ }
-    ensures { λ r. ⌜ (r .from + r .len ≤ length (now (s .entry))) × (take (r .len) (drop (r .from) (now (s .entry))) ≡ bytesIn (plainRow Kind.Blob n (now (s .entry)) i)) ⌝ }
+    requires { ⌜ (i < n) × (n ≤ MOST_ITEMS) × (leastBytes blob n ≤ length (now s)) × (endsGood blob n (now s) i ≡ true) ⌝ }
+    ensures { λ r. ⌜ (r .from + r .len ≤ length (now (s .entry))) × (take (r .len) (drop (r .from) (now (s .entry))) ≡ bytesIn (plainRow blob n (now (s .entry)) i)) ⌝ }
 {
     let from = start_at(s, i);
     Range {
@@ -270,7 +272,7 @@ pub fn blob_at(n: usize, s: &[u8], i: usize) -> Range
 // refusal of the ends or of the length.
 fn check_ends(n: usize, s: &[u8]) -> u8
     requires { ⌜ (n ≤ MOST_ITEMS) × (4 * n ≤ length (now s)) ⌝ }
-    ensures { λ r. ⌜ r ≡ plainNumber Kind.Blob n (now (s .entry)) ⌝ }
+    ensures { λ r. ⌜ r ≡ lengthsNumber blob n (now (s .entry)) ⌝ }
 {
     let data = s.len() - 4 * n;
     let mut last = 0;
@@ -289,6 +291,42 @@ fn check_ends(n: usize, s: &[u8]) -> u8
     if last == data { 0 } else { refusal::LENGTH }
 }
 
+// The number that the plain rules give for `n` items of char; of blob, or of string, whose items are text.
+fn check_chars(w: usize, n: usize, s: &[u8]) -> u8
+    requires { ⌜ (n ≤ MOST_ITEMS) × (w < 256) ⌝ }
+    ensures { λ r. ⌜ r ≡ plainNumber (Kind.Char w) n (now (s .entry)) ⌝ }
+{
+    if s.len() != n * w {
+        return refusal::LENGTH;
+    }
+    if texts::chars_are_text(w, n, s) {
+        0
+    } else {
+        refusal::TEXT
+    }
+}
+
+fn check_blobs(text: bool, n: usize, s: &[u8]) -> u8
+    requires { ⌜ n ≤ MOST_ITEMS ⌝ }
+    ensures { λ r. ⌜ r ≡ plainNumber (Kind.Blob text) n (now (s .entry)) ⌝ }
+{
+    if s.len() < 4 * n {
+        return refusal::CUT;
+    }
+    let number = check_ends(n, s);
+    if number != 0 {
+        return number;
+    }
+    if !text {
+        return 0;
+    }
+    if texts::strings_are_text(n, s) {
+        0
+    } else {
+        refusal::TEXT
+    }
+}
+
 // The number that the plain rules give for `n` items.
 pub fn check(kind: Kind, n: usize, s: &[u8]) -> u8
     requires { ⌜ n ≤ MOST_ITEMS ⌝ }
@@ -302,19 +340,7 @@ pub fn check(kind: Kind, n: usize, s: &[u8]) -> u8
                 refusal::LENGTH
             }
         }
-        Kind::Char(w) => {
-            if s.len() == n * (w as usize) {
-                0
-            } else {
-                refusal::LENGTH
-            }
-        }
-        Kind::Blob => {
-            if s.len() < 4 * n {
-                refusal::CUT
-            } else {
-                check_ends(n, s)
-            }
-        }
+        Kind::Char(w) => check_chars(w as usize, n, s),
+        Kind::Blob(text) => check_blobs(text, n, s),
     }
 }

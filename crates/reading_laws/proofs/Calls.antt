@@ -34,7 +34,7 @@ use Rattle.reading_laws.proofs.RoomForOne.{Holds, row-given}
 -- ---- what is due, for any rows left
 module _ (k : Kind) (rs : List Row) where
   -- the rows that an answer gives are the first that are left
-  abbrev Front : Answer → Type 0
+  abbrev pub Front : Answer → Type 0
   Front (passed m) = m ≤ length rs
   Front (gave gs) = (gs ≡ take (length gs) rs) × (length gs ≤ length rs)
   Front (refused x) = (x ≡ 4) ⊎ ((x ≡ 6) ⊎ (x ≡ 7))
@@ -49,7 +49,7 @@ module _ (k : Kind) (rs : List Row) where
       whole (suc j) [] = refl
       whole (suc j) (x ∷ l) = ap (λ (y : List Row). x ∷ y) (whole j l)
 
-  due-front : (c : Call) → Front (due k rs c)
+  pub due-front : (c : Call) → Front (due k rs c)
   unfolding due
   due-front (skip m) = go (ltb (length rs) m) refl
     where

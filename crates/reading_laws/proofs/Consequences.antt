@@ -158,7 +158,7 @@ module _ (r : Reader) (b : List ℕ) (a a′ : Areas) (room : SameRoom a a′) w
       → SameBatch (Of k e) a a′ (record { answer = done k rs t; areas = filledIn k rs a }) (record { answer = done k rs t; areas = filledIn k rs a′ })
   same-done (Fixed p) e rs t = same-values p e rs t
   same-done (Char w) e rs t = same-texts (Char w) e rs t (unfold isBytes in refl)
-  same-done Blob e rs t = same-texts Blob e rs t (unfold isBytes in refl)
+  same-done (Blob text) e rs t = same-texts (Blob text) e rs t (unfold isBytes in refl)
 
   either : (c : Column) (t : Bool) (x y x′ y′ : Batch) → SameBatch c a a′ x x′ → SameBatch c a a′ y y′ → SameBatch c a a′ (cond t x y) (cond t x′ y′)
   either c true x y x′ y′ h i = h

@@ -104,7 +104,7 @@ module _ (rs : List Row) (a : Areas) (i : ℕ) (h : i < length rs) where
   unfolding handedRow filledIn asHanded isBytes
   row-at (Fixed p) = rw (flag-at, value-at)
   row-at (Char w) = rw (flag-at, bytes-in)
-  row-at Blob = rw (flag-at, bytes-in)
+  row-at (Blob text) = rw (flag-at, bytes-in)
 
 -- ---- all rows
 null-handed : (k : Kind) → asHanded k null ≡ null
@@ -132,7 +132,7 @@ plain-handed : (k : Kind) (n : ℕ) (b : List ℕ) (i : ℕ) → asHanded k (pla
 unfolding asHanded plainRow presence isBytes intIn bytesIn
 plain-handed (Fixed p) n b i = refl
 plain-handed (Char w) n b i = refl
-plain-handed Blob n b i = refl
+plain-handed (Blob text) n b i = refl
 
 nullable-handed : (k : Kind) (n : ℕ) (b : List ℕ) (i : ℕ) → asHanded k (nullableRow k n b i) ≡ nullableRow k n b i
 unfolding nullableRow asHanded presence

@@ -6,4 +6,5 @@ pub mod RoomForOne
 pub mod Calls
 pub mod Refusing
 pub mod Consequences
+pub mod TextRows
 pub mod Ours

@@ -54,7 +54,7 @@ plain-bytes (Char w) n b i =
     let t = taken w (drop (i * w) b) in
     let d = dropped (i * w) b in
     omega arith
-plain-bytes Blob n b i =
+plain-bytes (Blob text) n b i =
     let t = taken (endAt b i - startAt b i) (drop (4 * n + startAt b i) b) in
     let d = dropped (4 * n + startAt b i) b in
     omega arith

@@ -61,7 +61,7 @@ module _ (good : ℕ → Bool) where
   drop-good (suc m) (i ∷ is) h = drop-good m is (both (good i) (allOf good is) h .1)
 
 -- ---- places
-below-places : (n i m : ℕ) → i + n ≤ m → Below m (places n i)
+pub below-places : (n i m : ℕ) → i + n ≤ m → Below m (places n i)
 unfolding places
 below-places zero i m h = tt
 below-places (suc n) i m h = (omega arith, below-places n (suc i) m (omega arith))
@@ -245,7 +245,7 @@ module _ (runs n : ℕ) (counts : List ℕ) (q : walked runs counts ≡ Total n)
   run-count : length (runNumbers runs 0 counts) ≡ n
   run-count = steps-length runs counts n (spot 0 0 0) (run-rows .1)
 
-  run-below : Below runs (runNumbers runs 0 counts)
+  pub run-below : Below runs (runNumbers runs 0 counts)
   run-below = steps-below runs counts n (spot 0 0 0) (run-rows .1)
 
 runs-start : (h : Head) → h .runs ≤ MOST_ITEMS → runsWrong h 0 ≡ false
@@ -258,7 +258,7 @@ entry-good k entries part q zero h = refl
 entry-good k entries part q (suc i) h = rw (lt-ltb i entries (omega arith)) (plain-good k entries part q i (omega arith))
 
 -- where there is a run, there is an inner block
-inside-of : (inner : ℕ → List ℕ → ℕ) {n : ℕ} {b : List ℕ} {runs counts : ℕ} → SoundRuns inner n b runs counts → (i : ℕ) → i < runs
+pub inside-of : (inner : ℕ → List ℕ → ℕ) {n : ℕ} {b : List ℕ} {runs counts : ℕ} → SoundRuns inner n b runs counts → (i : ℕ) → i < runs
     → inner runs (innerPart counts b) ≡ 0
 inside-of inner {n} {b} {runs} {counts} s i l = ⊎-elim
     (λ (z : NoRuns n b runs counts). absurd (omega (arith, z .no-runs)))

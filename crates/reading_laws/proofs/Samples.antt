@@ -2,6 +2,7 @@
 use mathlib.Core.Path.{refl}
 use Rattle.reading_laws.specs.Samples.{samples, GivesEach}
 use Rattle.varint.specs.Varint as Varint
+use Rattle.utf8.specs.Utf8 as Utf8
 use Rattle.plain.specs.Rows as Rows
 use Rattle.plain.specs.Rules as Rules
 use Rattle.plain.specs.Plain as Plain
@@ -20,8 +21,8 @@ use Rattle.area.specs.Area as Area
 
 pub samples-given : GivesEach samples
 unfolding Varint.more Varint.countWithin Varint.in32Bits Varint.countOf Varint.countAt Varint.spellWithin Varint.spelling Varint.wrote Varint.wroteOver Rows.intIn
-    Rows.bytesIn Rows.fits Rows.sameInt Rows.sameBytes Rows.same Rules.firstOf Plain.joined Plain.allOf Plain.places Plain.itemOf Plain.endsFrom
-    Plain.plainOf Plain.endAt Plain.startAt Plain.endsOf Plain.rising Plain.lastOf Plain.plainNumber Plain.beforeNul Plain.fixedAt Plain.charAt
+    Rows.bytesIn Rows.fits Utf8.isText Utf8.after Rows.sameInt Rows.sameBytes Rows.same Rules.firstOf Plain.joined Plain.allOf Plain.places Plain.itemOf Plain.endsFrom
+    Plain.plainOf Plain.endAt Plain.startAt Plain.endsOf Plain.rising Plain.lastOf Plain.lengthsNumber Plain.allText Plain.plainNumber Plain.beforeNul Plain.fixedAt Plain.charAt
     Plain.blobAt Plain.plainRow Plain.leastBytes Plain.endsGood Nullable.bitmapLength Nullable.presence Nullable.byteOf Nullable.bitmapByte
     Nullable.bitmapOf Nullable.nullableOf Nullable.plainPart Nullable.bitmapPart Nullable.trailerOf Nullable.nullableNumber Nullable.bitAt
     Nullable.nullableRow RunLength.runsFrom RunLength.runsOf RunLength.countsOf RunLength.runLengthOf RunLength.runsIn RunLength.countsLength

@@ -1,12 +1,14 @@
 -- Any list of calls on one sound block: what ought to be answered, from the rows of the block alone. Assumes nothing.
 use Prim.Native.Nat.{ℕ, _+_}
-use mathlib.Core.Bool.{cond}
+use mathlib.Core.Bool.{true, cond}
 use mathlib.Core.List.{List, [], _∷_, _++_}
+use mathlib.Core.Path.{_≡_}
 use lib.Dec.{ltb, eqb}
 use lib.ListN.{length, take, drop}
 use Rattle.limits.specs.Refusals.{ROOM, NO_ROWS, TOO_FAR}
 use Rattle.encode.specs.declared.Kind.{Kind}
-use Rattle.plain.specs.Rows.{Row}
+use Rattle.utf8.specs.Utf8.{isText}
+use Rattle.plain.specs.Rows.{Row, null, int, bytes}
 use Rattle.block.specs.declared.Reader.{Reader}
 use Rattle.block.specs.Reading.{short}
 use Rattle.block.specs.Calls.{Call, skip, batch, Answer, passed, gave, refused, after}
@@ -54,3 +56,9 @@ unskipped all (refused e ∷ as′) = unskipped all as′
 unfoldable pub afterAll : Reader → List ℕ → List Call → Reader
 afterAll r b [] = r
 afterAll r b (c ∷ cs) = afterAll (after r b c) b cs
+
+-- ---- what char and string hand out
+abbrev pub NullOrText : Row → Type 0
+NullOrText null = Unit
+NullOrText (int v) = ⊥
+NullOrText (bytes bs) = isText bs ≡ true

@@ -8,7 +8,8 @@ use Rattle.varint.specs.declared.Count.the-variants.{Number, Bad}
 use Rattle.varint.specs.Varint.{countOf, spelling}
 use Rattle.encode.specs.declared.Primitive.the-variants.{I16, I32, Date, Interval}
 use Rattle.encode.specs.declared.Kind.{Kind}
-use Rattle.encode.specs.declared.Kind.the-variants.{Fixed, Char, Blob}
+use Rattle.encode.specs.Kinds.{blob}
+use Rattle.encode.specs.declared.Kind.the-variants.{Fixed, Char}
 use Rattle.plain.specs.Rows.{Row, null, int, bytes, interval}
 use Rattle.format.specs.declared.Encoding.{Encoding}
 use Rattle.format.specs.declared.Encoding.the-variants.{Plain, Nullable, RunLength, RunLengthNullable, Dictionary}
@@ -77,7 +78,7 @@ abbrev i32Runs : Pair
 i32Runs = pair 2 2 0 (Fixed I32) RunLength
 
 abbrev blobWords : Pair
-blobWords = pair 9 4 0 Blob Dictionary
+blobWords = pair 9 4 0 blob Dictionary
 
 abbrev char3 : Pair
 char3 = pair 8 0 3 (Char 3) Plain

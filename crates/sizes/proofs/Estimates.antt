@@ -93,7 +93,7 @@ module _ (k : Kind) where
   unfolding nextBytes
   next-char w q = ap (λ (j : Kind). nextBytes j false 0) (sym q)
 
-  pub next-blob : k ≡ Blob → 4 ≡ nextBytes k false 0
+  pub next-blob : {text : Bool} → k ≡ Blob text → 4 ≡ nextBytes k false 0
   unfolding nextBytes
   next-blob q = ap (λ (j : Kind). nextBytes j false 0) (sym q)
 
@@ -104,16 +104,16 @@ module _ (k : Kind) where
       go : (k : Kind) → OneOf (0 ∷ 1 ∷ []) (tagOf kind-type k) → nextBytes k false 0 + 0 ≡ nextBytes k present len
       go (Fixed p) h = omega arith
       go (Char w) h = omega arith
-      go Blob h = absurd (miss (0 ∷ 1 ∷ []) 2 tt h)
+      go (Blob text) h = absurd (miss (0 ∷ 1 ∷ []) 2 tt h)
 
-  pub blob-len : k ≡ Blob → (present : Bool) → present ≡ true → (len : ℕ) → nextBytes k false 0 + len ≡ nextBytes k present len
+  pub blob-len : {text : Bool} → k ≡ Blob text → (present : Bool) → present ≡ true → (len : ℕ) → nextBytes k false 0 + len ≡ nextBytes k present len
   unfolding nextBytes
   blob-len q present t len =
       let z : 4 + len ≡ len + 4 = omega arith in
       subst (λ (j : Kind). nextBytes j false 0 + len ≡ nextBytes j present len) (sym q)
       (subst (λ (y : Bool). 4 + len ≡ cond y (len + 4) 4) (sym t) z)
 
-  pub blob-null : k ≡ Blob → (present : Bool) → present ≡ false → (len : ℕ) → nextBytes k false 0 + 0 ≡ nextBytes k present len
+  pub blob-null : {text : Bool} → k ≡ Blob text → (present : Bool) → present ≡ false → (len : ℕ) → nextBytes k false 0 + 0 ≡ nextBytes k present len
   unfolding nextBytes
   blob-null q present t len =
       subst (λ (j : Kind). nextBytes j false 0 + 0 ≡ nextBytes j present len) (sym q)

@@ -34,7 +34,7 @@ sizeBy k Dictionary r = 8 + runSize r (4 * r .runs) + innerSize k Dictionary r
 unfoldable pub nextBytes : Kind → Bool → ℕ → ℕ
 nextBytes (Fixed p) present len = widthOf p
 nextBytes (Char w) present len = w
-nextBytes Blob present len = cond present (len + 4) 4
+nextBytes (Blob text) present len = cond present (len + 4) 4
 
 -- item bytes that aren't empty, and a plain estimate that with so many bytes more exceeds the target
 unfoldable pub exceeds : Kind → ℕ → ℕ → ℕ → ℕ → Bool

@@ -73,7 +73,7 @@ fn next_fixed(kind: Kind) -> usize
     match kind {
         Kind::Fixed(p) => p.width(),
         Kind::Char(w) => w as usize,
-        Kind::Blob => 4,
+        Kind::Blob(_) => 4,
     }
 }
 
@@ -82,7 +82,7 @@ fn next_len(kind: Kind, present: bool, len: usize) -> usize
 {
     match kind {
         Kind::Fixed(_) | Kind::Char(_) => 0,
-        Kind::Blob => {
+        Kind::Blob(_) => {
             if present {
                 return len;
             }

@@ -23,9 +23,9 @@ pub no-end : (k : Kind) (i end : ℕ) (ends : List ℕ) → OneOf (0 ∷ 1 ∷ [
 unfolding endsWith
 no-end (Fixed p) i end ends h = refl
 no-end (Char w) i end ends h = refl
-no-end Blob i end ends h = absurd (miss (0 ∷ 1 ∷ []) 2 tt h)
+no-end (Blob text) i end ends h = absurd (miss (0 ∷ 1 ∷ []) 2 tt h)
 
-pub end-set : {k : Kind} (i end : ℕ) (ends : List ℕ) → k ≡ Blob → set ends i end ≡ endsWith k i end ends
+pub end-set : {k : Kind} (i end : ℕ) (ends : List ℕ) → {text : Bool} → k ≡ Blob text → set ends i end ≡ endsWith k i end ends
 unfolding endsWith
 end-set i end ends e = rw e
 
@@ -33,7 +33,7 @@ pub no-len : (k : Kind) (i len : ℕ) (lens : List ℕ) → OneOf (0 ∷ 2 ∷ [
 unfolding lensWith
 no-len (Fixed p) i len lens h = refl
 no-len (Char w) i len lens h = absurd (miss (0 ∷ 2 ∷ []) 1 tt h)
-no-len Blob i len lens h = refl
+no-len (Blob text) i len lens h = refl
 
 pub len-set : {k : Kind} (w i len : ℕ) (lens : List ℕ) → k ≡ Char w → set lens i len ≡ lensWith k i len lens
 unfolding lensWith
@@ -60,7 +60,7 @@ module _ (k : Kind) (present : Bool) (v : ℤ) (bs : List ℕ) where
           → lens′ ≡ lensWith j i (length (bytesIn (rowOf j present v bs))) lens
       go (Fixed p) g = g
       go (Char w) g = g
-      go Blob g = g
+      go (Blob text) g = g
 
   presence-of : presence (rowOf k present v bs) ≡ cond present 1 0
   unfolding rowOf valueOf presence
@@ -69,7 +69,7 @@ module _ (k : Kind) (present : Bool) (v : ℤ) (bs : List ℕ) where
       go : (j : Kind) (t : Bool) → presence (rowOf j t v bs) ≡ cond t 1 0
       go (Fixed p) true = refl
       go (Char w) true = refl
-      go Blob true = refl
+      go (Blob text) true = refl
       go j false = refl
 
   module _ (i : ℕ) (flags : List ℕ) (flagged : Bool) where

@@ -1,7 +1,7 @@
 -- The item of a row by its kind: whether the row fits, how long the item is, and that what the code writes of it is the item. Assumes nothing.
-use Prim.Native.Nat.{ℕ, _+_, _-_, _≤_}
+use Prim.Native.Nat.{ℕ, _+_, _-_, _≤_, _<_}
 use native.Mathlib.Omega.{arith}
-use borrow.Author.Tests.{leb-true}
+use borrow.Author.Tests.{lt-leb, le-leb}
 use mathlib.Core.Bool.{Bool, true, false, cond}
 use mathlib.Core.List.{List, _++_}
 use mathlib.Core.Path.{_≡_, refl, sym, ap, _∙_}
@@ -14,7 +14,7 @@ use mir.Syntax.{w64}
 use mir.Val.{SFits, ofZ, toZ}
 use Rattle.limits.specs.Limits.{isWidth}
 use Rattle.encode.specs.Bytes.{inEight}
-use Rattle.encode.specs.Kinds.{shapeOf, widthOf, defaultValue, encoded, takes}
+use Rattle.encode.specs.Kinds.{shapeOf, widthOf, defaultValue, encoded, takes, blob}
 use Rattle.encode.specs.declared.Primitive.{Primitive}
 use Rattle.encode.specs.declared.Kind.{Kind}
 use Rattle.encode.specs.declared.Kind.the-variants.{Fixed, Char, Blob}
@@ -26,13 +26,15 @@ use Rattle.area.specs.Area.{over}
 use Rattle.area.proofs.Laws.{over-sets, over-none, sets-append}
 use Rattle.plain.specs.Rows.{Row, null, int, bytes, valueOf, rowOf, intIn, bytesIn, fits}
 use Rattle.plain.specs.Plain.{itemOf}
+use Rattle.plain.proofs.Each.{char-short as char-most}
+use Rattle.utf8.specs.Utf8.{isText}
 
 -- ---- whether a row fits
 null-fits : (k : Kind) → true ≡ fits k null
 unfolding fits
 null-fits (Fixed p) = refl
 null-fits (Char w) = refl
-null-fits Blob = refl
+null-fits (Blob text) = refl
 
 module _ (k : Kind) (present : Bool) (v : ℤ) (bs : List ℕ) where
   pub fits-none : present ≡ false → true ≡ fits k (rowOf k present v bs)
@@ -45,22 +47,36 @@ module _ (k : Kind) (present : Bool) (v : ℤ) (bs : List ℕ) where
   unfolding rowOf valueOf fits
   fits-fixed p e t f h = rw (e, t) (h ∙ ap (takes p) (toZ-ofZ f))
 
-  pub fits-char : (w : ℕ) → k ≡ Char w → present ≡ true → leb (length bs) w ≡ fits k (rowOf k present v bs)
-  unfolding rowOf valueOf fits
-  fits-char w e t = rw (e, t)
+  pub fits-char : {w : ℕ} → k ≡ Char w → present ≡ true → {r : Bool} → r ≡ fits (Char w) (bytes bs) → r ≡ fits k (rowOf k present v bs)
+  unfolding rowOf valueOf
+  fits-char e t h = rw (e, t) h
 
-  pub fits-blob : k ≡ Blob → present ≡ true → true ≡ fits k (rowOf k present v bs)
-  unfolding rowOf valueOf fits
-  fits-blob e t = rw (e, t)
+  pub fits-blob : {text : Bool} → k ≡ Blob text → present ≡ true → {r : Bool} → r ≡ fits (Blob text) (bytes bs) → r ≡ fits k (rowOf k present v bs)
+  unfolding rowOf valueOf
+  fits-blob e t h = rw (e, t) h
+
+-- bytes of char, of blob and of string; r is what was made of all of them
+module _ (bs : List ℕ) where
+  module _ (w : ℕ) where
+    pub char-long-refused : w < length bs → false ≡ fits (Char w) (bytes bs)
+    unfolding fits
+    char-long-refused l = simp (lt-leb (length bs) w l)
+
+    pub char-looked-at : length bs ≤ w → {r : Bool} → r ≡ isText (take (length bs) (drop 0 bs)) → r ≡ fits (Char w) (bytes bs)
+    unfolding fits
+    char-looked-at l h = h ∙ ap isText (take-length bs) ∙ simp (le-leb (length bs) w l)
+
+  module _ {text : Bool} where
+    pub blob-taken : text ≡ false → true ≡ fits (Blob text) (bytes bs)
+    unfolding fits
+    blob-taken t = rw t
+
+    pub string-looked-at : text ≡ true → {r : Bool} → r ≡ isText (take (length bs) (drop 0 bs)) → r ≡ fits (Blob text) (bytes bs)
+    unfolding fits
+    string-looked-at t h = h ∙ ap isText (take-length bs) ∙ rw t
 
 -- ---- how long an item is
 -- a char that fits is no longer than the width, and filled up it is as long
-pub char-most : (w : ℕ) (r : Row) → fits (Char w) r ≡ true → length (bytesIn r) ≤ w
-unfolding fits bytesIn
-char-most w null h = omega arith
-char-most w (int v) h = omega arith
-char-most w (bytes bs) h = leb-true (length bs) w h
-
 char-length : (w : ℕ) (r : Row) → fits (Char w) r ≡ true → w ≡ length (itemOf (Char w) r)
 unfolding itemOf
 char-length w r h = let l : length (bytesIn r) ≤ w = char-most w r h in rw (length-append, length-replicate) (omega arith)
@@ -73,7 +89,7 @@ module _ (k : Kind) (present : Bool) (v : ℤ) (bs : List ℕ) where
   pub char-long : (w : ℕ) → k ≡ Char w → fits k (rowOf k present v bs) ≡ true → w ≡ length (itemOf k (rowOf k present v bs))
   char-long w e h = rw e (char-length w (rowOf (Char w) present v bs) (rw e at h))
 
-  pub blob-long : k ≡ Blob → {n : ℕ} → n ≡ length (bytesIn (cond present (bytes bs) null)) → n ≡ length (itemOf k (rowOf k present v bs))
+  pub blob-long : {text : Bool} → k ≡ Blob text → {n : ℕ} → n ≡ length (bytesIn (cond present (bytes bs) null)) → n ≡ length (itemOf k (rowOf k present v bs))
   unfolding itemOf rowOf valueOf
   blob-long e h = rw e h
 
@@ -158,17 +174,17 @@ module _ (present : Bool) (bs d : List ℕ) (at : ℕ) where
     unfolding itemOf bytesIn
     char-none t h = let z : w - 0 ≡ w = omega arith in rw (t, z) (h ∙ over-sets (replicate w 0) d at (rw (t, z) at m))
 
-  module _ (m : at + length (itemOf Blob (cond present (bytes bs) null)) ≤ length d) where
+  module _ (m : at + length (itemOf blob (cond present (bytes bs) null)) ≤ length d) where
     pub blob-room : present ≡ true → at + length bs ≤ length d
     unfolding itemOf bytesIn
     blob-room t = rw t at m
 
     pub blob-put : present ≡ true → {d′ : List ℕ} → d′ ≡ sets d at (take (length bs) (drop 0 bs))
-        → d′ ≡ over d at (itemOf Blob (cond present (bytes bs) null))
+        → d′ ≡ over d at (itemOf blob (cond present (bytes bs) null))
     unfolding itemOf bytesIn
     blob-put t h = rw t (bytes-put d at bs (rw t at m) h)
 
-  pub blob-none : present ≡ false → d ≡ over d at (itemOf Blob (cond present (bytes bs) null))
+  pub blob-none : present ≡ false → d ≡ over d at (itemOf blob (cond present (bytes bs) null))
   unfolding itemOf bytesIn
   blob-none t = rw t (sym (over-none d at))
 
@@ -199,13 +215,13 @@ module _ (k : Kind) (present : Bool) (v : ℤ) (bs d : List ℕ) (at : ℕ) wher
     unfolding rowOf valueOf
     char-found h = rw e h
 
-  module _ (e : k ≡ Blob) where
-    pub blob-asked : at + length (itemOf k (rowOf k present v bs)) ≤ length d → at + length (itemOf Blob (cond present (bytes bs) null)) ≤ length d
-    unfolding rowOf valueOf
+  module _ {text : Bool} (e : k ≡ Blob text) where
+    pub blob-asked : at + length (itemOf k (rowOf k present v bs)) ≤ length d → at + length (itemOf blob (cond present (bytes bs) null)) ≤ length d
+    unfolding rowOf valueOf itemOf
     blob-asked m = rw e at m
 
-    pub blob-found : {d′ : List ℕ} → d′ ≡ over d at (itemOf Blob (cond present (bytes bs) null)) → d′ ≡ over d at (itemOf k (rowOf k present v bs))
-    unfolding rowOf valueOf
+    pub blob-found : {d′ : List ℕ} → d′ ≡ over d at (itemOf blob (cond present (bytes bs) null)) → d′ ≡ over d at (itemOf k (rowOf k present v bs))
+    unfolding rowOf valueOf itemOf
     blob-found h = rw e h
 
 -- ---- the row as it reaches a callee

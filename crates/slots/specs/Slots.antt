@@ -11,12 +11,12 @@ use Rattle.encode.specs.declared.Kind.the-variants.{Fixed, Char, Blob}
 unfoldable pub endsWith : Kind → ℕ → ℕ → List ℕ → List ℕ
 endsWith (Fixed p) i end ends = ends
 endsWith (Char w) i end ends = ends
-endsWith Blob i end ends = set ends i end
+endsWith (Blob text) i end ends = set ends i end
 
 unfoldable pub lensWith : Kind → ℕ → ℕ → List ℕ → List ℕ
 lensWith (Fixed p) i len lens = lens
 lensWith (Char w) i len lens = set lens i len
-lensWith Blob i len lens = lens
+lensWith (Blob text) i len lens = lens
 
 -- its flag: bit i mod 8 alone of byte i / 8; a new byte starts at 0
 unfoldable pub withBit : ℕ → ℕ → ℕ → ℕ

@@ -2,11 +2,12 @@
 use encode::Kind;
 use encode::Primitive;
 ghost use mathlib.Core.Path.{_≡_};
-ghost use mathlib.Core.Bool.{true, false, cond, not, _&&_};
+ghost use mathlib.Core.Bool.{Bool, true, false, cond, not, _&&_};
 ghost use Prim.Native.Nat.{ℕ, _+_, _/_, _<_, _≤_, _^_};
 ghost use lib.ListN.{length, set};
 ghost use lib.Seq.{sets};
 ghost use Rattle.area.specs.Area.{over};
+ghost use Rattle.encode.specs.Kinds.{blob};
 ghost use Rattle.encode.specs.declared.Kind.the-variants.{Fixed, Char, Blob};
 ghost use Rattle.limits.specs.Limits.{MOST_COUNT};
 ghost use Rattle.plain.specs.Rows.{null, int, bytes, rowOf, fits, bytesIn};
@@ -25,9 +26,29 @@ pub fn row_fits(kind: Kind, present: bool, value: i64, item: &[u8]) -> bool
     }
     match kind {
         Kind::Fixed(p) => p.takes(value),
-        Kind::Char(w) => item.len() <= (w as usize),
-        Kind::Blob => true,
+        Kind::Char(w) => char_fits(w as usize, item),
+        Kind::Blob(text) => blob_fits(text, item),
     }
+}
+
+// Whether char takes the bytes: they are no longer than the width, and text.
+fn char_fits(w: usize, item: &[u8]) -> bool
+    ensures { λ r. ⌜ r ≡ fits (Char w) (bytes (now (item .entry))) ⌝ }
+{
+    if w < item.len() {
+        return false;
+    }
+    utf8::is_text(item, 0, item.len())
+}
+
+// Whether blob takes the bytes, which it always does, or string, which takes text.
+fn blob_fits(text: bool, item: &[u8]) -> bool
+    ensures { λ r. ⌜ r ≡ fits (Blob text) (bytes (now (item .entry))) ⌝ }
+{
+    if !text {
+        return true;
+    }
+    utf8::is_text(item, 0, item.len())
 }
 
 // The length of the row's item.
@@ -38,7 +59,7 @@ pub fn item_len(kind: Kind, present: bool, value: i64, item: &[u8]) -> usize
     match kind {
         Kind::Fixed(p) => p.width(),
         Kind::Char(w) => w as usize,
-        Kind::Blob => given_len(present, item),
+        Kind::Blob(_) => given_len(present, item),
     }
 }
 
@@ -82,8 +103,8 @@ fn put_char(width: usize, present: bool, item: &[u8], items: &mut [u8], at: usiz
 }
 
 fn put_blob(present: bool, item: &[u8], items: &mut [u8], at: usize)
-    requires { ⌜ at + length (itemOf Blob (cond present (bytes (now item)) null)) ≤ length (now items) ⌝ }
-    ensures { λ _. ⌜ now (items .exit) ≡ over (now (items .entry)) at (itemOf Blob (cond present (bytes (now (item .entry))) null)) ⌝ }
+    requires { ⌜ at + length (itemOf blob (cond present (bytes (now item)) null)) ≤ length (now items) ⌝ }
+    ensures { λ _. ⌜ now (items .exit) ≡ over (now (items .entry)) at (itemOf blob (cond present (bytes (now (item .entry))) null)) ⌝ }
 {
     if present {
         area::copy(item, 0, item.len(), items, at);
@@ -98,16 +119,16 @@ fn put_item(kind: Kind, present: bool, value: i64, item: &[u8], items: &mut [u8]
     match kind {
         Kind::Fixed(p) => put_value(p, present, value, items, at),
         Kind::Char(w) => put_char(w as usize, present, item, items, at),
-        Kind::Blob => put_blob(present, item, items, at),
+        Kind::Blob(_) => put_blob(present, item, items, at),
     }
 }
 
 // The end of a blob item; the length of a char item, 0 for a null.
 fn put_end(kind: Kind, i: usize, end: usize, ends: &mut [u32])
-    requires { ⌜ (end < 2 ^ 32) × (kind ≡ Blob → i < length (now ends)) ⌝ }
+    requires { ⌜ (end < 2 ^ 32) × ((text : Bool) → kind ≡ Blob text → i < length (now ends)) ⌝ }
     ensures { λ _. ⌜ now (ends .exit) ≡ endsWith kind i end (now (ends .entry)) ⌝ }
 {
-    let Kind::Blob = kind else {
+    let Kind::Blob(_) = kind else {
         return;
     };
     ends[i] = end as u32;
@@ -175,7 +196,7 @@ pub fn write_item(
         × (end ≡ at + length (itemOf kind (rowOf kind present value (now item))))
         × (end ≤ length (now items))
         × (end < 2 ^ 32)
-        × (kind ≡ Blob → i < length (now ends))
+        × ((text : Bool) → kind ≡ Blob text → i < length (now ends))
         × ((w : ℕ) → kind ≡ Char w → i < length (now lens))
         × (flagged ≡ true → i / 8 < length (now flags)) ⌝ }
     ensures { λ _. ⌜ now (items .exit) ≡ over (now (items .entry)) at (itemOf kind (rowOf kind present value (now (item .entry)))) ⌝ }

@@ -1,7 +1,7 @@
 -- Plain blocks: the items are as the layout says exactly when no plain rule refuses them. Assumes nothing.
 use Prim.Native.Nat.{ℕ, zero, suc, _+_, _-_, _*_, _≤_}
 use native.Mathlib.Omega.{arith}
-use mathlib.Core.Bool.{true, _&&_}
+use mathlib.Core.Bool.{Bool, true, false, _&&_}
 use mathlib.Core.List.{List, [], _∷_, _++_, map, append-assoc}
 use mathlib.Core.Path.{_≡_, refl, sym, ap, _∙_}
 use lib.Dec.{leb}
@@ -9,15 +9,17 @@ use lib.ListN.{length, take, drop, length-append, length-drop, take-append-drop}
 use lib.Seq.{take-at, drop-append-add, length-take-le}
 use borrow.Author.Tests.{le-leb, leb-true}
 use Rattle.encode.specs.Bytes.{low-first, number}
-use Rattle.encode.specs.Kinds.{widthOf}
+use Rattle.encode.specs.Kinds.{widthOf, blob, string}
 use Rattle.encode.specs.declared.Kind.{Kind}
 use Rattle.encode.specs.declared.Kind.the-variants.{Fixed, Char, Blob}
-use Rattle.encode.proofs.Bools.{both}
-use Rattle.plain.specs.Plain.{joined, places, endAt, endsOf, rising, plainNumber}
+use Rattle.encode.proofs.Bools.{clash, both}
+use Rattle.plain.specs.Plain.{joined, places, endAt, endsOf, rising, lengthsNumber, plainNumber}
 use Rattle.plain.proofs.Ends.{last-same}
-use Rattle.plain.proofs.Numbers.{fixed-number, char-number, length-same, fixed-plain, char-plain, blobs-plain}
+use Rattle.plain.proofs.Numbers.{fixed-length, char-length, all-text, text-kept, fixed-plain, char-plain, blobs-plain}
+use Rattle.plain.proofs.TextItems.{row-text, rows-text}
 use Rattle.plain.proofs.Places.{over-shift, over-same}
 use Rattle.plain.specs.Each.{Each}
+use Rattle.utf8.proofs.Spelled.{sequences-text, text-sequences}
 use Rattle.soundness_laws.specs.Sound.{Written, values, written, Field, NeverFall, Blobs, Items}
 
 -- ---- four bytes and more: the first end, and those behind it
@@ -102,7 +104,7 @@ risen before room (w ∷ ends) h =
     ((leb-true before (w .value) (y .0), z .0), (leb-true (w .value) room (y .1), z .1))
 
 -- ---- blobs
-blobs-open : (n : ℕ) (b : List ℕ) → Blobs n b → plainNumber Blob n b ≡ 0
+blobs-open : (n : ℕ) (b : List ℕ) → Blobs n b → lengthsNumber blob n b ≡ 0
 blobs-open n b s =
     let c : Cut n b = record { ends = s .ends; rest = s .data′; whole = s .whole; count = s .count; fields = s .fields } in
     let l = room-behind c in
@@ -111,9 +113,9 @@ blobs-open n b s =
     (rw (ends-behind c, r) (rise 0 (length (s .data′)) (s .ends) (s .neverFall) (s .neverPass)))
     (rw (ends-behind c, r) (s .last)))
 
-opens-blobs : (n : ℕ) (b : List ℕ) → plainNumber Blob n b ≡ 0 → Blobs n b
-opens-blobs n b z =
-    let t = blobs-plain n b z in
+opens-blobs : (text : Bool) (n : ℕ) (b : List ℕ) → plainNumber (Blob text) n b ≡ 0 → Blobs n b
+opens-blobs text n b z =
+    let t = blobs-plain text n b z in
     let c = cut n b (t .0) in
     let l = room-behind c in
     let r : length b - 4 * n ≡ length (c .rest) = omega arith in
@@ -129,13 +131,19 @@ opens-blobs n b z =
       last = rw (ends-behind c, r) at (t .2);
     }
 
+string-lengths : (n : ℕ) (b : List ℕ) → Blobs n b → lengthsNumber string n b ≡ 0
+unfolding lengthsNumber
+string-lengths n b s = blobs-open n b s
+
 -- ---- every kind
 pub items-open : (k : Kind) (n : ℕ) (b : List ℕ) → Items k n b → plainNumber k n b ≡ 0
-items-open (Fixed p) n b s = sym (length-same (Fixed p) refl (widthOf p) n b (fixed-number p (widthOf p) n b refl) s)
-items-open (Char w) n b s = sym (length-same (Char w) refl w n b (char-number w n b) s)
-items-open Blob n b s = blobs-open n b s
+items-open (Fixed p) n b s = all-text (Fixed p) n b (fixed-length p n b s) (rows-text (Fixed p) n b (λ h. clash (sym h)))
+items-open (Char w) n b s = all-text (Char w) n b (char-length w n b (s .0)) (rows-text (Char w) n b (λ h i l. sequences-text (s .1 i l)))
+items-open (Blob false) n b s = all-text blob n b (blobs-open n b s) (rows-text blob n b (λ h. clash (sym h)))
+items-open (Blob true) n b s = all-text string n b (string-lengths n b (s .0)) (rows-text string n b (λ h i l. sequences-text (s .1 i l)))
 
 pub opens-items : (k : Kind) (n : ℕ) (b : List ℕ) → plainNumber k n b ≡ 0 → Items k n b
 opens-items (Fixed p) n b z = fixed-plain p n b z
-opens-items (Char w) n b z = char-plain w n b z
-opens-items Blob n b z = opens-blobs n b z
+opens-items (Char w) n b z = (char-plain w n b z, λ i l. text-sequences _ (row-text (Char w) n b (text-kept (Char w) n b z) refl i l))
+opens-items (Blob false) n b z = opens-blobs false n b z
+opens-items (Blob true) n b z = (opens-blobs true n b z, λ i l. text-sequences _ (row-text string n b (text-kept string n b z) refl i l))

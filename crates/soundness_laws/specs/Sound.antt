@@ -1,6 +1,7 @@
 -- 01, "Layouts" and "Sound blocks": what a sound block is, by the parts that it consists of and what holds of them, for every kind and encoding. There
 -- are no refusal numbers here and no order of testing. Assumes nothing.
 use Prim.Native.Nat.{ℕ, _+_, _*_, _<_, _≤_}
+use mathlib.Core.Bool.{true, false}
 use mathlib.Core.Path.{_≡_}
 use mathlib.Core.Logic.{_⊎_}
 use mathlib.Core.List.{List, [], _∷_, _++_, map}
@@ -8,14 +9,16 @@ use lib.IntN.{ℤ}
 use lib.ListN.{length}
 use Rattle.limits.specs.Limits.{MOST_ITEMS, MOST_ENTRIES, MOST_BYTES}
 use Rattle.encode.specs.Bytes.{Order, low-first, high-first, numberOf}
-use Rattle.encode.specs.Kinds.{widthOf}
+use Rattle.encode.specs.Kinds.{widthOf, string}
 use Rattle.encode.specs.declared.Primitive.the-variants.{I32}
 use Rattle.encode.specs.declared.Kind.{Kind}
 use Rattle.encode.specs.declared.Kind.the-variants.{Fixed, Char, Blob}
 use Rattle.varint.specs.declared.Count.the-variants.{Number}
 use Rattle.varint.specs.Varint.{countOf}
 use Rattle.plain.specs.Each.{Each}
-use Rattle.plain.specs.Plain.{joined, lastOf, fixedAt}
+use Rattle.utf8.specs.Sequences.{Sequences}
+use Rattle.plain.specs.Rows.{bytesIn}
+use Rattle.plain.specs.Plain.{joined, lastOf, fixedAt, plainRow}
 use Rattle.nullable.specs.Nullable.{bitmapLength}
 use Rattle.dict.specs.Dictionary.{i32, nullKey, entryKey}
 use Rattle.format.specs.declared.Encoding.{Encoding}
@@ -54,7 +57,7 @@ NeverFall before [] = Unit
 NeverFall before (e ∷ es) = (before ≤ e) × NeverFall e es
 
 -- ---- plain: n items
--- blob: one u32 little-endian end an item, then the data; ends never fall and never pass the data, and the last (0 if there is none) is its length
+-- blob and string: one u32 little-endian end an item, then the data; ends never fall and never pass the data, and the last (0 if there is none) is its length
 pub record Blobs (n : ℕ) (b : List ℕ) : Type 0 where
   pub ends : List Written
   pub data′ : List ℕ
@@ -65,11 +68,16 @@ pub record Blobs (n : ℕ) (b : List ℕ) : Type 0 where
   pub neverPass : Each (λ e. e .value ≤ length data′) ends
   pub last : lastOf 0 (values ends) ≡ length data′
 
--- fixed and char: n times the width
+-- each item, as it is read, is text: a char up to its first NUL, a string whole
+abbrev pub Texts : Kind → ℕ → List ℕ → Type 0
+Texts k n b = (i : ℕ) → i < n → Sequences (bytesIn (plainRow k n b i))
+
+-- fixed and char: n times the width; char and string: text
 abbrev pub Items : Kind → ℕ → List ℕ → Type 0
 Items (Fixed p) n b = length b ≡ n * widthOf p
-Items (Char w) n b = length b ≡ n * w
-Items Blob n b = Blobs n b
+Items (Char w) n b = (length b ≡ n * w) × Texts (Char w) n b
+Items (Blob false) n b = Blobs n b
+Items (Blob true) n b = Blobs n b × Texts string n b
 
 -- ---- nullable: a plain block, a bitmap of a byte for eight items, and the bitmap's byte length
 pub record NullableItems (k : Kind) (n : ℕ) (b : List ℕ) : Type 0 where

@@ -15,6 +15,7 @@ use denote.Enum.Declared.{tagOf}
 use borrow.Author.Tests.{lt-ltb, le-ltb, ltb-true, le-leb, lt-leb, leb-true, leb-false, eq-eqb, ne-eqb}
 use Rattle.area.proofs.Laws.{lt-or-ge}
 use Rattle.encode.specs.declared.Kind.{Kind}
+use Rattle.encode.specs.Kinds.{blob}
 use Rattle.encode.specs.declared.Kind.the-variants.{Fixed, Char, Blob}
 use Rattle.encode.specs.declared.Primitive.{Primitive}
 use Rattle.limits.specs.Limits.{MOST_ITEMS}
@@ -233,7 +234,7 @@ module _ (s : Source) (marks items : List ℕ) (i : ℕ) where
         go zero z k = q .0 z
         go (suc n) z (Fixed p) = q .1 (omega arith)
         go (suc n) z (Char w) = q .1 (omega arith)
-        go (suc n) z Blob = q .1 (omega arith)
+        go (suc n) z (Blob text) = q .1 (omega arith)
 
 -- ---- a place that is there, with the item that it looks at
 module _ (s : Source) (marks : List ℕ) (i : ℕ) where
@@ -281,3 +282,9 @@ module _ (s : Source) (marks : List ℕ) (i : ℕ) where
 pub not-fixed : {k : Kind} (p : Primitive) → k ≡ Fixed p → Texts k → ⊥
 unfolding Texts
 not-fixed p e h = subst Texts e h
+
+-- ---- blob and string, which are laid out alike
+pub blob-text : (text : Bool) (n : ℕ) (part : List ℕ) (slot : ℕ) → textOf blob n part slot ≡ textOf (Blob text) n part slot
+unfolding textOf bytesIn entryRow plainRow
+blob-text text n part zero = refl
+blob-text text n part (suc i) = refl

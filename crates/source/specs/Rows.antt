@@ -139,8 +139,8 @@ pub record Writes (good : ℕ → Bool) (steps : Steps) (n room : ℕ) : Type 0 
   pub right : allOf good (stepRuns steps) ≡ true
   pub rows : n ≤ room
 
--- and bytes are written of char and blob only
+-- and bytes are written of char, blob and string only
 unfoldable pub Texts : Kind → Type 0
 Texts (Fixed p) = ⊥
 Texts (Char w) = Unit
-Texts Blob = Unit
+Texts (Blob text) = Unit

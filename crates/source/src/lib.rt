@@ -11,7 +11,8 @@ ghost use Prim.Native.Nat.{_+_, _-_, _<_, _≤_};
 ghost use lib.ListN.{length, take, drop, replicate};
 ghost use lib.Seq.{sets};
 ghost use Rattle.limits.specs.Limits.{MOST_ITEMS};
-ghost use Rattle.encode.specs.declared.Kind.the-variants.{Char, Blob};
+ghost use Rattle.encode.specs.Kinds.{blob};
+ghost use Rattle.encode.specs.declared.Kind.the-variants.{Char};
 ghost use Rattle.plain.specs.Plain.{leastBytes, endsGood};
 ghost use Rattle.rle.specs.declared.Piece.the-variants.{Rows};
 ghost use Rattle.source.specs.Rows.{shownBy, seenBy, mostBy, textOf, goodBy, Ready, pieceOf, lookBy, Good};
@@ -196,8 +197,8 @@ pub fn char_of(w: usize, n: usize, items: &[u8], slot: usize) -> Range
 }
 
 pub fn blob_of(n: usize, items: &[u8], slot: usize) -> Range
-    requires { ⌜ (slot ≤ n) × (n ≤ MOST_ITEMS) × (leastBytes Blob n ≤ length (now items)) × (0 < slot → endsGood Blob n (now items) (slot - 1) ≡ true) ⌝ }
-    ensures { λ r. ⌜ (r .from + r .len ≤ length (now (items .entry))) × (take (r .len) (drop (r .from) (now (items .entry))) ≡ textOf Blob n (now (items .entry)) slot) ⌝ }
+    requires { ⌜ (slot ≤ n) × (n ≤ MOST_ITEMS) × (leastBytes blob n ≤ length (now items)) × (0 < slot → endsGood blob n (now items) (slot - 1) ≡ true) ⌝ }
+    ensures { λ r. ⌜ (r .from + r .len ≤ length (now (items .entry))) × (take (r .len) (drop (r .from) (now (items .entry))) ≡ textOf blob n (now (items .entry)) slot) ⌝ }
 {
     if slot == 0 {
         return Range { from: 0, len: 0 };

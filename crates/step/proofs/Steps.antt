@@ -110,14 +110,14 @@ held-not-null : (k : Kind) (h : Held) (i : ℕ) → same null (heldRow k h i) �
 unfolding heldRow same
 held-not-null (Fixed p) h i = refl
 held-not-null (Char w) h i = refl
-held-not-null Blob h i = refl
+held-not-null (Blob text) h i = refl
 
 row-null : (k : Kind) (present : Bool) (v : ℤ) (bs : List ℕ) → same (rowOf k present v bs) null ≡ not present
 unfolding rowOf valueOf same
 row-null k false v bs = refl
 row-null (Fixed p) true v bs = refl
 row-null (Char w) true v bs = refl
-row-null Blob true v bs = refl
+row-null (Blob text) true v bs = refl
 
 module _ (k : Kind) (r : Counted) (h : Held) (present : Bool) (v : ℤ) (bs : List ℕ) {x : Bool} (q : x ≡ runOpen r) where
   pub joins-closed : x ≡ false → false ≡ joinsRun k r h (rowOf k present v bs)
@@ -218,7 +218,7 @@ module _ (k : Kind) (r : Counted) (h : Held) (keys : List ℤ) (present : Bool) 
       go : (k : Kind) → entryStep r keys (lookUp k (r .entries) (r .bytes) h (valueOf k v bs)) ≡ keyStep k r h keys (valueOf k v bs)
       go (Fixed p) = refl
       go (Char w) = refl
-      go Blob = refl
+      go (Blob text) = refl
 
   pub key-some :
       present ≡ true → {l : Looked} → l ≡ lookUp k (r .entries) (r .bytes) h (valueOf k v bs) → {s : Step} → s ≡ entryStep r keys l

@@ -124,6 +124,6 @@ module _ (k : Kind) {present : Bool} (v : ℤ) (bs : List ℕ) where
   unfolding rowText rowOf valueOf
   row-char e q = rw (e, q)
 
-  pub row-blob : present ≡ true → k ≡ Blob → bytesText bs ≡ rowText k (rowOf k present v bs)
+  pub row-blob : present ≡ true → {text : Bool} → k ≡ Blob text → bytesText bs ≡ rowText k (rowOf k present v bs)
   unfolding rowText rowOf valueOf
   row-blob e q = rw (e, q)

@@ -23,7 +23,7 @@ abbrev pub linesC : List ℕ
 linesC = 114 ∷ 111 ∷ 119 ∷ 115 ∷ 32 ∷ 51 ∷ 10 ∷ 48 ∷ 32 ∷ 53 ∷ 10 ∷ 49 ∷ 32 ∷ 110 ∷ 117 ∷ 108 ∷ 108 ∷ 10 ∷ 50 ∷ 32 ∷ 45 ∷ 50 ∷ 10 ∷ 101 ∷ 110 ∷ 100 ∷ 10 ∷ []
 
 pub lists-C : Listing.listingOf inputC ≡ linesC
-unfolding Kinds.numbered Kinds.kindOf Rows.intIn Rows.bytesIn Rules.firstOf Plain.places Plain.fixedAt Plain.plainRow Plain.plainNumber
+unfolding Kinds.numbered Kinds.kindOf Rows.intIn Rows.bytesIn Rules.firstOf Plain.places Plain.fixedAt Plain.plainRow Plain.lengthsNumber Plain.allText Plain.plainNumber
     Nullable.bitmapLength Nullable.plainPart Nullable.bitmapPart Nullable.trailerOf Nullable.nullableNumber Nullable.bitAt
     Nullable.nullableRow Blocks.withEncoding Blocks.columnOf Opening.rulesOf Opening.mostRows Opening.columnNumber Opening.openNumber
     Opening.headOf Opening.rowAt Opening.placesOf Opening.rowsOf Reading.headIn Reading.openedBy Reading.opened Descriptor.describedOpened

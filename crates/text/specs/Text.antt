@@ -62,11 +62,11 @@ bytesText (b ∷ bs) = hexOf (b ∷ bs)
 abbrev pub nullText : List ℕ
 nullText = 110 ∷ (117 ∷ (108 ∷ (108 ∷ [])))
 
--- char and blob have no integers; the text of one is said for them too, so that every row has a text
+-- char, blob and string have no integers; the text of one is said for them too, so that every row has a text
 unfoldable pub intText : Kind → ℤ → List ℕ
 intText (Fixed p) v = valueText p v
 intText (Char w) v = numberText v
-intText Blob v = numberText v
+intText (Blob text) v = numberText v
 
 unfoldable pub rowText : Kind → Row → List ℕ
 rowText k null = nullText

@@ -12,7 +12,7 @@ use crate::Made;
 use encode::Kind;
 use encode::Primitive;
 
-// A row as a reader hands it out: whether it is present, the value of a fixed kind, the bytes of a char or a blob.
+// A row as a reader hands it out: whether it is present, the value of a fixed kind, the bytes of a char, a blob or a string.
 pub fn row_text(kind: Kind, present: bool, value: i64, bytes: &[u8], out: &mut [u8]) -> Made
     ensures { λ r. ⌜ r ≡ madeIn (now (out .entry)) (rowText kind (rowOf kind present value (now (bytes .entry)))) ⌝ }
     ensures { λ _. ⌜ now (out .exit) ≡ heldAfter (now (out .entry)) (rowText kind (rowOf kind present value (now (bytes .entry)))) ⌝ }
@@ -23,7 +23,7 @@ pub fn row_text(kind: Kind, present: bool, value: i64, bytes: &[u8], out: &mut [
     match kind {
         Kind::Fixed(p) => value_text(p, value, out),
         Kind::Char(_) => bytes_text(bytes, out),
-        Kind::Blob => bytes_text(bytes, out),
+        Kind::Blob(_) => bytes_text(bytes, out),
     }
 }
 

@@ -177,8 +177,12 @@ fn known(kind: encode::Kind) {
             say(b"char ");
             number(width as u64);
         }
-        encode::Kind::Blob => {
-            say(b"blob");
+        encode::Kind::Blob(text) => {
+            if text {
+                say(b"string");
+            } else {
+                say(b"blob");
+            }
         }
     }
 }
@@ -218,6 +222,7 @@ fn kinds() {
     kind(9, 0);
     kind(9, 1);
     kind(10, 0);
+    kind(10, 1);
     kind(11, 0);
     kind(11, 1);
     kind(11, 8);

@@ -19,7 +19,7 @@ pub struct Viewed<'a> {
     pub view: View<'a>,
 }
 
-// What a batch answers: the rows given and, for char and blob, the bytes written.
+// What a batch answers: the rows given and, for char, blob and string, the bytes written.
 pub struct Taken<'a> {
     pub number: u8,
     pub rows: usize,

@@ -8,6 +8,7 @@ use mathlib.Core.Path.{_≡_, refl, sym, ap, subst, _∙_}
 use lib.ListN.{length, take, drop, length-take, length-drop}
 use Rattle.limits.specs.Limits.{MOST_BYTES}
 use Rattle.encode.specs.declared.Kind.{Kind}
+use Rattle.encode.specs.Kinds.{blob}
 use Rattle.encode.specs.declared.Kind.the-variants.{Fixed, Char, Blob}
 use Rattle.plain.specs.Rows.{bytesIn}
 use Rattle.plain.specs.Plain.{endAt, startAt, blobAt, endsGood, plainRow}
@@ -65,24 +66,30 @@ pub fixed-ends : (k : Kind) → (Texts k → ⊥) → (n : ℕ) (part : List ℕ
 unfolding Texts endsGood
 fixed-ends (Fixed p) h n part i = refl
 fixed-ends (Char w) h n part i = absurd (h tt)
-fixed-ends Blob h n part i = absurd (h tt)
+fixed-ends (Blob text) h n part i = absurd (h tt)
 
 pub fixed-text : (k : Kind) → (Texts k → ⊥) → (n : ℕ) (part : List ℕ) (slot : ℕ) → 0 ≡ length (textOf k n part slot)
 unfolding Texts textOf bytesIn entryRow plainRow
 fixed-text (Fixed p) h n part zero = refl
 fixed-text (Fixed p) h n part (suc i) = refl
 fixed-text (Char w) h n part slot = absurd (h tt)
-fixed-text Blob h n part slot = absurd (h tt)
+fixed-text (Blob text) h n part slot = absurd (h tt)
+
+-- ---- blob and string, which are laid out alike
+pub blob-weight : (text : Bool) (n : ℕ) (part : List ℕ) (slot : ℕ) → weightOf blob n part slot ≡ weightOf (Blob text) n part slot
+unfolding weightOf entryGood endsGood textOf bytesIn entryRow plainRow
+blob-weight text n part zero = refl
+blob-weight text n part (suc i) = refl
 
 -- a blob lies in the block
-blob-length : (n : ℕ) (part : List ℕ) (slot : ℕ) → length (textOf Blob n part slot) ≤ length part
+blob-length : (n : ℕ) (part : List ℕ) (slot : ℕ) → length (textOf blob n part slot) ≤ length part
 unfolding textOf bytesIn entryRow plainRow blobAt
 blob-length n part zero = omega arith
 blob-length n part (suc i) =
     let a : ℕ = 4 * n + startAt part i in
     rw (length-take (endAt part i - startAt part i) (drop a part)) (simp length-drop (omega (arith, min-le-right (endAt part i - startAt part i) (length part - a))))
 
-pub blob-few : (n : ℕ) (part : List ℕ) (slot : ℕ) {len d : ℕ} → len ≡ length (textOf Blob n part slot) → d ≤ len → length part ≤ MOST_BYTES → d ≤ MOST_BYTES
+pub blob-few : (n : ℕ) (part : List ℕ) (slot : ℕ) {len d : ℕ} → len ≡ length (textOf blob n part slot) → d ≤ len → length part ≤ MOST_BYTES → d ≤ MOST_BYTES
 blob-few n part slot g h l = omega (arith, blob-length n part slot)
 
 -- what is shown is what is looked at, or nothing

@@ -6,10 +6,12 @@ use source::Look;
 use source::Source;
 use source::Weighed;
 use source::Weight;
+ghost use mathlib.Core.Bool.{Bool};
 ghost use mathlib.Core.Path.{_≡_};
 ghost use Prim.Native.Nat.{_+_, _*_, _<_, _≤_, _^_};
 ghost use lib.ListN.{length};
 ghost use Rattle.limits.specs.Limits.{MOST_ITEMS, MOST_BYTES};
+ghost use Rattle.encode.specs.Kinds.{blob};
 ghost use Rattle.encode.specs.declared.Kind.the-variants.{Char, Blob};
 ghost use Rattle.plain.specs.Plain.{leastBytes};
 ghost use Rattle.source.specs.Rows.{sizeBy, goodBy, Ready, Starts, stepsOf, capped, weightOf, weighedBy, Texts};
@@ -94,8 +96,8 @@ fn weigh_chars(
 
 // The bytes of a blob item that is looked at, counted from 1 on; or it breaks the rule of the ends.
 fn blob_weight(n: usize, items: &[u8], slot: usize) -> Weight
-    requires { ⌜ (slot ≤ n) × (n ≤ MOST_ITEMS) × (leastBytes Blob n ≤ length (now items)) ⌝ }
-    ensures { λ r. ⌜ r ≡ weightOf Blob n (now (items .entry)) slot ⌝ }
+    requires { ⌜ (slot ≤ n) × (n ≤ MOST_ITEMS) × (leastBytes blob n ≤ length (now items)) ⌝ }
+    ensures { λ r. ⌜ r ≡ weightOf blob n (now (items .entry)) slot ⌝ }
 {
     if slot == 0 {
         return Weight::Sum(0);
@@ -126,7 +128,7 @@ fn weigh_blobs(
     from: Spot,
     n: usize,
 ) -> Weighed
-    requires { ⌜ Ready s (now marks) (now items) × Starts s from n × (s .kind ≡ Blob) ⌝ }
+    requires { ⌜ Ready s (now marks) (now items) × Starts s from n × ((text : Bool) × (s .kind ≡ Blob text)) ⌝ }
     ensures { λ r. ⌜ r ≡ weighedBy (goodBy s (now (marks .entry)) (now (items .entry))) (sizeBy s (now (marks .entry)) (now (items .entry))) (stepsOf s (now (counts .entry)) n from) ⌝ }
 {
     let mut at = from;
@@ -161,6 +163,6 @@ pub fn weigh(s: Source, counts: &[u8], marks: &[u8], items: &[u8], from: Spot, n
     match kind {
         Kind::Fixed(_) => weigh_fixed(s, counts, marks, items, from, n),
         Kind::Char(w) => weigh_chars(w as usize, s, counts, marks, items, from, n),
-        Kind::Blob => weigh_blobs(s, counts, marks, items, from, n),
+        Kind::Blob(_) => weigh_blobs(s, counts, marks, items, from, n),
     }
 }

@@ -44,13 +44,32 @@ pub enum Row<'a> {
     Null,
     /// A row of a fixed kind but [`Kind::F64`]; of that, a builder also takes the bits so.
     Int(i64),
-    /// A row of char or blob.
+    /// A row of char, blob or string: see [`Row::text`].
     Bytes(&'a [u8]),
     /// A row of [`Kind::F64`].
     F64(f64),
 }
 
-impl Row<'_> {
+impl<'a> Row<'a> {
+    /// The text of a row of char or string; nothing for a null, for a row of a fixed kind, and for bytes that aren't text.
+    ///
+    /// All rows of a sound block of these kinds are text. They are looked at here all the same: reading doesn't test text again, so a
+    /// block that gives other bytes than it was opened with can give some that are none.
+    ///
+    /// ```
+    /// use idzulgar::Row;
+    ///
+    /// assert_eq!(Row::Bytes(&[0xC3, 0xA9]).text(), Some("é"));
+    /// assert_eq!(Row::from("é"), Row::Bytes(&[0xC3, 0xA9]));
+    /// assert_eq!((Row::Bytes(&[0xC3]).text(), Row::Null.text(), Row::Int(7).text()), (None, None, None));
+    /// ```
+    pub fn text(self) -> Option<&'a str> {
+        match self {
+            Row::Bytes(bytes) => std::str::from_utf8(bytes).ok(),
+            _ => None,
+        }
+    }
+
     /// The float of a row of [`Kind::F64`]; nothing for a null and for a row of any other kind.
     ///
     /// ```
@@ -77,6 +96,12 @@ impl Row<'_> {
     }
 }
 
+impl<'a> From<&'a str> for Row<'a> {
+    fn from(text: &'a str) -> Row<'a> {
+        Row::Bytes(text.as_bytes())
+    }
+}
+
 impl PartialEq for Row<'_> {
     fn eq(&self, other: &Self) -> bool {
         self.told() == other.told()
@@ -98,13 +123,18 @@ pub enum Value {
     Null,
     /// A row of a fixed kind but [`Kind::F64`]; of that, a builder also takes the bits so.
     Int(i64),
-    /// A row of char or blob.
+    /// A row of char, blob or string: see [`Value::text`].
     Bytes(Vec<u8>),
     /// A row of [`Kind::F64`].
     F64(f64),
 }
 
 impl Value {
+    /// The text of a row of char or string, as [`Row::text`] gives it.
+    pub fn text(&self) -> Option<&str> {
+        Row::from(self).text()
+    }
+
     /// The float of a row of [`Kind::F64`]; nothing for a null and for a row of any other kind.
     pub fn f64(&self) -> Option<f64> {
         Row::from(self).f64()
@@ -155,7 +185,7 @@ fn zeros<T: Clone + Default>(count: usize) -> Result<Vec<T>, TryReserveError> {
 }
 
 impl Batch {
-    /// Memory for at most `rows` rows of a kind and, for char and blob, `bytes` bytes of them. It is set aside at once and never
+    /// Memory for at most `rows` rows of a kind and, for char, blob and string, `bytes` bytes of them. It is set aside at once and never
     /// grows.
     pub fn new(kind: Kind, rows: usize, bytes: usize) -> Result<Self, TryReserveError> {
         let is_bytes = kind.is_bytes();

@@ -112,12 +112,12 @@ impl Builder {
             Encoding::Dictionary => record.entries,
         };
         let item = match self.column.kind {
-            Kind::Blob => item_len,
+            Kind::Blob | Kind::String => item_len,
             Kind::Char(width) => usize::from(width),
             _ => 8,
         };
         grow(&mut self.items, record.bytes.saturating_add(item))?;
-        if self.column.kind == Kind::Blob {
+        if matches!(self.column.kind, Kind::Blob | Kind::String) {
             grow(&mut self.ends, stored + 1)?;
         }
         if matches!(self.column.kind, Kind::Char(_)) {
@@ -136,7 +136,7 @@ impl Builder {
     }
 
     /// Appends a row. A refused row changes nothing: [`Refusal::Item`] if the row doesn't fit the kind, [`Refusal::Limit`] if the
-    /// block would pass a limit.
+    /// block would pass a limit. A row of char or string is given by its bytes or, with `into`, as `&str`.
     pub fn append(&mut self, row: Row<'_>) -> Result<(), Refusal> {
         let row = parts(self.column.kind, row)?;
         let mut answer = self.call(row);

@@ -41,7 +41,7 @@ pub struct Opening {
     pub reader: ReaderRecord,
 }
 
-/// What a batch answers: the rows given and, for char and blob, the bytes written.
+/// What a batch answers: the rows given and, for char, blob and string, the bytes written.
 #[repr(C)]
 #[derive(Clone, Copy, Debug, PartialEq, Eq)]
 #[allow(missing_docs)]
@@ -138,7 +138,7 @@ pub struct Asked {
     pub builder: BuilderRecord,
 }
 
-/// The six areas of a builder: items (fixed and char items at their width, blob data), the blob items' ends, flags (a bit an
+/// The six areas of a builder: items (fixed and char items at their width, data of blob and string), their ends, flags (a bit an
 /// item), the runs' counts, the key runs' keys, the char items' lengths.
 #[derive(Debug)]
 #[allow(missing_docs)]
@@ -263,7 +263,7 @@ pub fn create(kind: usize, encoding: usize, width: usize, target: usize) -> Crea
     unsafe { idz_create(kind, encoding, width, target) }
 }
 
-/// Appends one row: whether it is present, its integer for a fixed kind, its bytes for char and blob.
+/// Appends one row: whether it is present, its integer for a fixed kind, its bytes for char, blob and string.
 pub fn append(builder: BuilderRecord, areas: Areas<'_>, present: bool, value: i64, item: &[u8]) -> Appended {
     // SAFETY: see the head of this file.
     unsafe {

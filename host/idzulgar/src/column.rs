@@ -20,11 +20,14 @@ pub enum Kind {
     TimestampTz,
     /// Months and days, 32 bits each, as one integer: see [`Kind::interval`].
     Interval,
-    /// Bytes of at most this width, padded with NULs; read up to the first NUL. The width is 1 to 255: width 0 is refused when
+    /// Text of at most this many bytes, padded with NULs; read up to the first NUL. The width is 1 to 255: width 0 is refused when
     /// the column is used.
     Char(u8),
-    /// Bytes.
+    /// Any bytes.
     Blob,
+    /// Text (well-formed UTF-8), laid out as [`Kind::Blob`]: a block with an item that isn't text is refused as [`Refusal::Text`], an
+    /// appended row as [`Refusal::Item`]. So it is with char.
+    String,
     /// A float of 64 bits, kept and compared by its bits: 0.0 and -0.0 are two rows, and a NaN equals exactly those of the same bits.
     F64,
 }
@@ -39,9 +42,9 @@ impl Kind {
         ((value >> 32) as i32, value as i32)
     }
 
-    /// Whether rows are bytes (char and blob) rather than one integer each.
+    /// Whether rows are bytes (char, blob and string) rather than one integer each.
     pub fn is_bytes(self) -> bool {
-        matches!(self, Kind::Char(_) | Kind::Blob)
+        matches!(self, Kind::Char(_) | Kind::Blob | Kind::String)
     }
 }
 
@@ -83,8 +86,9 @@ impl Column {
     /// assert_eq!(Column::numbered(8, 4, 16), Ok(Column::new(Kind::Char(16), Encoding::Dictionary)));
     /// assert_eq!(Column::numbered(8, 4, 256), Err(Refusal::Column));
     /// assert_eq!(Column::numbered(3, 0, 8), Err(Refusal::Column));
+    /// assert_eq!(Column::numbered(10, 4, 0), Ok(Column::new(Kind::String, Encoding::Dictionary)));
     /// assert_eq!(Column::numbered(11, 0, 0), Ok(Column::new(Kind::F64, Encoding::Plain)));
-    /// assert_eq!(Column::numbered(10, 0, 0), Err(Refusal::Column));
+    /// assert_eq!(Column::numbered(12, 0, 0), Err(Refusal::Column));
     /// ```
     pub fn numbered(kind: u64, encoding: u64, width: u64) -> Result<Self, Refusal> {
         let kind = match (kind, width) {
@@ -98,6 +102,7 @@ impl Column {
             (7, 0) => Kind::Interval,
             (8, 1..=255) => Kind::Char(width as u8),
             (9, 0) => Kind::Blob,
+            (10, 0) => Kind::String,
             (11, 0) => Kind::F64,
             _ => return Err(Refusal::Column),
         };
@@ -125,6 +130,7 @@ impl Column {
             Kind::Interval => (7, 0),
             Kind::Char(width) => (8, usize::from(width)),
             Kind::Blob => (9, 0),
+            Kind::String => (10, 0),
             Kind::F64 => (11, 0),
         };
         (kind, self.encoding as usize, width)

@@ -46,8 +46,34 @@
 //! # Ok::<(), Refusal>(())
 //! ```
 //!
+//! Names: rows of [`Kind::String`] and of char are text, which opening and appending see to. They are given as `&str` or as bytes, and come
+//! back as bytes with [`Value::text`] beside them.
+//!
+//! ```
+//! use idzulgar::{Builder, Column, Encoding, Kind, Reader, Refusal, Row};
+//!
+//! let column = Column::new(Kind::String, Encoding::RunLengthNullable);
+//! let mut builder = Builder::new(column, 4096)?;
+//! for name in [Some("Zoë"), Some("Zoë"), None, Some("")] {
+//!     builder.append(name.map_or(Row::Null, Row::from))?;
+//! }
+//! assert_eq!(builder.append(Row::Bytes(b"Zo\xC3")), Err(Refusal::Item)); // a character is cut
+//! let block = builder.finish()?;
+//!
+//! let reader = Reader::open(column, builder.rows(), &block[..])?;
+//! let names: Result<Vec<Option<String>>, Refusal> = reader.rows().map(|row| row.map(|value| value.text().map(String::from))).collect();
+//! assert_eq!(names?, [Some("Zoë".into()), Some("Zoë".into()), None, Some("".into())]);
+//!
+//! // a block of other bytes isn't opened; as a blob it is
+//! let damaged: Vec<u8> = block.iter().map(|byte| if *byte == 0xC3 { 0xFF } else { *byte }).collect();
+//! assert_eq!(Reader::open(column, 4, &damaged[..]).unwrap_err(), Refusal::Text);
+//! assert!(Reader::open(Column::new(Kind::Blob, Encoding::RunLengthNullable), 4, &damaged[..]).is_ok());
+//! # Ok::<(), Refusal>(())
+//! ```
+//!
 //! A block may be borrowed or owned: `&[u8]`, `Vec<u8>`, `Arc<[u8]>` and all else that is `AsRef<[u8]>`. Should it give other
-//! bytes later on, the calls answer that as [`Refusal::Disagree`] or from the bytes that are there, never from elsewhere.
+//! bytes later on, the calls answer that as [`Refusal::Disagree`] or from the bytes that are there, never from elsewhere; these may then
+//! be no text.
 #![deny(unsafe_code)]
 #![warn(missing_docs)]
 

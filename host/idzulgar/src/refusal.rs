@@ -8,7 +8,8 @@ use std::fmt::{Display, Formatter};
 pub enum Refusal {
     /// 1: kind, encoding or width is not one of the pairs.
     Column,
-    /// 2: an appended item doesn't fit its kind.
+    /// 2: an appended item doesn't fit its kind: an integer outside it, a char row longer than the width, a char or string row that isn't
+    /// text.
     Item,
     /// 3: a limit is passed.
     Limit,
@@ -28,18 +29,20 @@ pub enum Refusal {
     Varint,
     /// 13: a run count is 0, or the counts don't fill their section.
     Counts,
-    /// 14: a blob end falls or passes the data.
+    /// 14: the end of a blob or string falls or passes the data.
     Ends,
     /// 15: a dictionary key names no entry.
     Key,
     /// 16: the run counts don't add up to the rows.
     Sum,
+    /// 17: a stored char or string item isn't text.
+    Text,
     /// A number that this version doesn't know.
     Other(u8),
 }
 
 /// Each refusal with its number and what it means.
-const TABLE: [(u8, Refusal, &str); 14] = [
+const TABLE: [(u8, Refusal, &str); 15] = [
     (1, Refusal::Column, "kind, encoding or width is not one of the pairs"),
     (2, Refusal::Item, "the item doesn't fit its kind"),
     (
@@ -55,9 +58,10 @@ const TABLE: [(u8, Refusal, &str); 14] = [
     (11, Refusal::Length, "a length in the block is wrong"),
     (12, Refusal::Varint, "a run count is cut, too large or longer than needed"),
     (13, Refusal::Counts, "a run count is 0, or the run counts don't fill their section"),
-    (14, Refusal::Ends, "a blob end falls or passes the data"),
+    (14, Refusal::Ends, "the end of a blob or string falls or passes the data"),
     (15, Refusal::Key, "a dictionary key names no entry"),
     (16, Refusal::Sum, "the run counts don't add up to the rows"),
+    (17, Refusal::Text, "a char or string item isn't text"),
 ];
 
 impl Refusal {

@@ -37,6 +37,10 @@ fn a_refused_row_changes_nothing() {
         (Kind::I32, Row::Int(1 << 31)),
         (Kind::Date, Row::Int(-(1 << 31) - 1)),
         (Kind::Char(2), Row::Bytes(b"abc")),
+        (Kind::Char(2), Row::Bytes(b"\xFF")),
+        (Kind::Char(3), Row::Bytes(b"A\0\xFF")),
+        (Kind::String, Row::Bytes(b"\xC3")),
+        (Kind::String, Row::Int(0)),
         (Kind::Char(2), Row::Int(0)),
         (Kind::I64, Row::Bytes(b"a")),
         (Kind::I64, Row::F64(1.0)),
@@ -158,7 +162,7 @@ fn forged_records_and_changed_areas_get_an_answer_and_a_refusal_writes_nothing()
         if chance.one_in(2) {
             // bytes that go with the items
             let stored = [record.rows, record.rows, record.runs, record.runs, record.entries][encoding];
-            record.bytes = stored.wrapping_mul([1, 2, 4, 8, 4, 8, 8, 8, width, 1, 0, 8][kind]);
+            record.bytes = stored.wrapping_mul([1, 2, 4, 8, 4, 8, 8, 8, width, 1, 1, 8][kind]);
         }
         let (mut items, mut flags, mut lens) = (vec![3u8; 40], vec![5u8; 4], vec![1u8; 8]);
         let (mut ends, mut counts, mut keys) = (vec![2u32, 3, 4, 4, 9, 10], vec![2u32; 8], vec![-2147483647i32; 8]);

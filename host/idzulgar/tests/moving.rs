@@ -28,7 +28,7 @@ fn needs(column: Column, record: &BuilderRecord) -> [usize; 6] {
     let keyed = column.encoding == Encoding::Dictionary;
     [
         record.bytes,
-        if column.kind == Kind::Blob { stored } else { 0 },
+        if matches!(column.kind, Kind::Blob | Kind::String) { stored } else { 0 },
         if flagged { stored.div_ceil(8) } else { 0 },
         record.runs,
         if keyed { record.runs } else { 0 },
@@ -87,12 +87,13 @@ fn parts(value: &Value) -> (bool, i64, &[u8]) {
 }
 
 /// A row that doesn't fit the kind, where there is one.
-fn unfit(kind: Kind) -> Option<Value> {
+fn unfit(kind: Kind, chance: &mut Chance) -> Option<Value> {
     match kind {
         Kind::Bool => Some(Value::Int(2)),
         Kind::I16 => Some(Value::Int(-32_769)),
         Kind::I32 | Kind::Date => Some(Value::Int(1 << 31)),
-        Kind::Char(width) => Some(Value::Bytes(vec![b'a'; usize::from(width) + 1])),
+        Kind::Char(width) if chance.one_in(2) => Some(Value::Bytes(vec![b'a'; usize::from(width) + 1])),
+        Kind::Char(_) | Kind::String => Some(Value::Bytes(vec![0xC3])),
         _ => None,
     }
 }
@@ -144,7 +145,8 @@ fn calls_on_memory_that_starts_empty_and_is_another_at_each_call() {
             let few = std::array::from_fn(|_| chance.below(3) as usize);
             memory = memory.moved(column, &record, few, &mut chance);
             ask(column, target, record, &memory, &accepted, value, &mut chance);
-            if let Some(bad) = unfit(column.kind).filter(|_| chance.one_in(4)) {
+            let unfit = unfit(column.kind, &mut chance);
+            if let Some(bad) = unfit.filter(|_| chance.one_in(4)) {
                 let before = memory.clone();
                 let (present, value, bytes) = parts(&bad);
                 let answer = calls::append(record, memory.lent(), present, value, bytes);

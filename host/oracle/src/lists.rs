@@ -74,8 +74,19 @@ pub fn crafted(column: Column, spelling: Spelling, chance: &mut Chance) -> (Vec<
     }
 }
 
-/// Rows as the model draws them. Of floats the list has no NaN and at most one of the two zeros: on such the original judges, which takes the
-/// zeros for equal, and every NaN for every other.
+/// A block with a byte of its text changed, if it has one above ASCII, to one that starts, goes on or has no place in a character.
+pub fn text_damaged(block: &[u8], chance: &mut Chance) -> Vec<u8> {
+    const TELLING: [u8; 12] = [0x00, b'a', 0x80, 0xBF, 0xC0, 0xC2, 0xE0, 0xED, 0xF0, 0xF4, 0xF5, 0xFF];
+    let mut block = block.to_vec();
+    let above: Vec<usize> = (0..block.len()).filter(|at| block[*at] > 127).collect();
+    if let Some(at) = above.get(chance.below(above.len().max(1) as u64) as usize) {
+        block[*at] = TELLING[chance.below(12) as usize];
+    }
+    block
+}
+
+/// Rows as the model draws them; those of char and string are text. Of floats the list has no NaN and at most one of the two zeros: on
+/// such the original judges, which takes the zeros for equal, and every NaN for every other.
 pub fn judged_rows(kind: Kind, most: u64, chance: &mut Chance) -> Vec<Value> {
     let zero = if chance.one_in(2) { 0.0 } else { -0.0 };
     let judged = |row| match row {
@@ -112,6 +123,7 @@ pub fn alphabet(kind: Kind) -> Vec<Value> {
         Kind::Bool => vec![Value::Int(0), Value::Int(1)],
         Kind::Char(_) => texts(["", "a", "a\0"]),
         Kind::Blob => texts(["", "a", "ab"]),
+        Kind::String => texts(["", "é", "a"]),
         Kind::F64 => vec![Value::F64(0.0), Value::F64(1.0), Value::F64(-1.0)],
         _ => vec![Value::Int(0), Value::Int(1), Value::Int(-1)],
     };

@@ -2,11 +2,11 @@
 -- the flags. Assumes nothing.
 use borrow.Author.Needs.{needs}
 use Prim.Native.Nat.{ℕ, _+_, _-_}
-use mathlib.Core.Path.{refl}
+use mathlib.Core.Path.{refl, _∙_}
 use native.Mathlib.Omega.{arith}
-use Rattle.plain.proofs.Ranges.{least-found, ends-found}
+use Rattle.plain.proofs.Ranges.{blob-least, blob-good}
 use Rattle.source.specs.Rows.{flagBy}
-use Rattle.source.proofs.AtPlace.{flag-row}
+use Rattle.source.proofs.AtPlace.{flag-row, blob-text}
 use Rattle.source.proofs.Progress as pieces
 use Rattle.source.proofs.Filled as flagged
 use Rattle.byte_rows.proofs.TextsWritten as written
@@ -56,8 +56,8 @@ blob-of-requires c κs =
     let a = s .args in (
       r .2,
       s .pre .0 .few,
-      least-found (s .pre .2) (a .s .items) (a .items .now) (s .pre .0 .whole),
-      (λ h. ends-found (s .pre .2) (a .s .items) (a .items .now) _ (r .3 h)),
+      blob-least (s .pre .2 .1) (a .s .items) (a .items .now) (s .pre .0 .whole),
+      (λ h. blob-good (s .pre .2 .1) (a .s .items) (a .items .now) _ (r .3 h)),
     )
 
 fill-flags-requires : tie.Need-fill-flags-requires Inv-loop μ-loop
@@ -73,8 +73,8 @@ put-text-requires c κs =
     let h = d .before .before in
     let s = entry h in
     let r = i .blob-of in
-    let m = run-room _ _ _ _ _ _ _ _ (h .loop .inv .0) (omega arith) (d .shown-run .ensures .0) (d .shown-run .ensures .1) (s .pre .2)
-    (r .result .from) (r .result .len) (r .ensures .0) (r .ensures .1) (s .pre .3) (s .pre .5) (s .pre .6) in
+    let m = run-room _ _ _ _ _ _ _ _ (h .loop .inv .0) (omega arith) (d .shown-run .ensures .0) (d .shown-run .ensures .1) (s .pre .2 .1)
+    (r .result .from) (r .result .len) (r .ensures .0) (r .ensures .1 ∙ blob-text (s .pre .2 .0) (s .args .s .items) (s .args .items .now) _) (s .pre .3) (s .pre .5) (s .pre .6) in
     (r .ensures .0, s .pre .0 .block, m .0, m .1, m .2)
 
 -- behind the text of a run: where the run was found
@@ -107,8 +107,8 @@ loop-again c =
     let h = d .before .before in
     let s = entry h in
     let a = s .args in (
-      run-on _ _ _ _ _ _ _ _ (h .loop .inv .0) (omega arith) (d .shown-run .ensures .0) (d .shown-run .ensures .1) (s .pre .2)
-          (r .result .from) (r .result .len) (r .ensures .0) (r .ensures .1)
+      run-on _ _ _ _ _ _ _ _ (h .loop .inv .0) (omega arith) (d .shown-run .ensures .0) (d .shown-run .ensures .1) (s .pre .2 .1)
+          (r .result .from) (r .result .len) (r .ensures .0) (r .ensures .1 ∙ blob-text (s .pre .2 .0) (a .s .items) (a .items .now) _)
           (p .put-text .ensures .0) (p .put-text .ensures .1 .0) (p .put-text .ensures .1 .1),
       flagged.filled-on (h .loop .inv .1) (omega arith) refl (d .shown-run .ensures .0)
           (λ m. flag-row (a .s) (a .marks .now) (a .items .now) _ (d .shown-run .ensures .1 m) (f .before .before .flag-of .ensures))

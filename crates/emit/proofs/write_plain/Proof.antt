@@ -26,7 +26,7 @@ write-ends-requires c κs =
     let s = c .before .before .before .before .before .before in
     let a = s .args in
     let k = c .before .enum-told .given .1 in (
-      s .pre .1 k,
+      s .pre .1 _ k,
       laws.room-first (a .out .now) (a .at) (joined (little 4) (take (a .n) (a .ends .now))) (take (a .len) (a .items .now))
           (laws.room-as (a .out .now) (a .at) (laws.blob-bytes (a .kind) (a .n) (a .len) (a .items .now) (a .ends .now) k) (s .pre .2)),
     )

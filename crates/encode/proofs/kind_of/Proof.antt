@@ -64,19 +64,23 @@ returns-13 c = numbers 9 0 (c .match .keys9) (no-width (c .before))
 
 returns-14 : tie.Need-returns-14
 unfolding kindOf numbered
-returns-14 c = numbers 11 0 (c .match .keys10) (no-width (c .before))
+returns-14 c = numbers 10 0 (c .match .keys10) (no-width (c .before))
 
 returns-15 : tie.Need-returns-15
-returns-15 c =
+unfolding kindOf numbered
+returns-15 c = numbers 11 0 (c .match .keys11) (no-width (c .before))
+
+returns-16 : tie.Need-returns-16
+returns-16 c =
     let a = c .before .before .before .args in
     let r = c .match .rest in
     number-refused (a .kind) (a .width) (c .before .before .if1 .left) (no-width (c .before))
-    (r .0 .0 .0 .0 .0 .0 .0 .0 .0 .1) (r .0 .0 .0 .0 .0 .0 .0 .0 .1) (r .0 .0 .0 .0 .0 .0 .0 .1) (r .0 .0 .0 .0 .0 .0 .1)
-    (r .0 .0 .0 .0 .0 .1) (r .0 .0 .0 .0 .1) (r .0 .0 .0 .1) (r .0 .0 .1) (r .0 .1) (r .1)
+    (r .0 .0 .0 .0 .0 .0 .0 .0 .0 .0 .1) (r .0 .0 .0 .0 .0 .0 .0 .0 .0 .1) (r .0 .0 .0 .0 .0 .0 .0 .0 .1) (r .0 .0 .0 .0 .0 .0 .0 .1)
+    (r .0 .0 .0 .0 .0 .0 .1) (r .0 .0 .0 .0 .0 .1) (r .0 .0 .0 .0 .1) (r .0 .0 .0 .1) (r .0 .0 .1) (r .0 .1) (r .1)
 
 pub kind-of-spec : {M : Type 1} → statement M
 kind-of-spec =
     tie.close
     (tie.spec
     returns returns-2 cast-t5 returns-3 returns-4 returns-5 returns-6 returns-7 returns-8
-    returns-9 returns-10 returns-11 returns-12 returns-13 returns-14 returns-15)
+    returns-9 returns-10 returns-11 returns-12 returns-13 returns-14 returns-15 returns-16)

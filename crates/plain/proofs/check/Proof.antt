@@ -1,14 +1,12 @@
 -- `check` meets its contract: each arm is the law of its kind. Assumes nothing.
-use Prim.Native.Nat.{_<_}
 use mathlib.Core.Path.{sym, ap, _∙_}
 use native.Mathlib.Omega.{arith}
 use borrow.Author.Needs.{needs}
 use Rattle.encode.specs.declared.Kind.{Kind}
-use Rattle.encode.specs.declared.Kind.the-variants.{Fixed, Char}
+use Rattle.encode.specs.declared.Kind.the-variants.{Fixed}
 use Rattle.encode.specs.Kinds.{layoutOf}
 use Rattle.plain.specs.Plain.{plainNumber}
-use Rattle.plain.proofs.Ends.{ends-missing}
-use Rattle.plain.proofs.Numbers.{bytes-small, product-small, fixed-number, char-number, length-same, length-other}
+use Rattle.plain.proofs.Numbers.{bytes-small, product-small, fixed-number, length-same, length-other}
 use Rattle.plain.proofs.check.Statement.{statement}
 use Rattle.plain.proofs.check.Tie as tie
 
@@ -16,13 +14,6 @@ mul-if1 : tie.Need-mul-if1
 mul-if1 c =
     let b = bytes-small (layoutOf (c .before .before .kind .given .0 .0) .size) in
     let p = product-small (c .before .before .before .before .before .args .n) (c .width .result) (omega arith) (omega (arith, c .width .ensures)) in
-    omega arith
-
-mul-if2 : tie.Need-mul-if2
-mul-if2 c =
-    let w = c .before .kind2 .given .0 .0 in
-    let l : w < 256 = search needs in
-    let p = product-small (c .before .before .before .before .args .n) w (omega arith) l in
     omega arith
 
 returns : tie.Need-returns
@@ -36,20 +27,14 @@ returns-2 c =
     length-other (Fixed (k .0 .0)) (k .1) _ _ _ (fixed-number _ _ _ _ (c .before .width .ensures)) (c .if1 .left)
 
 returns-3 : tie.Need-returns-3
-returns-3 c = let k = c .before .before .kind2 .given in length-same (Char (k .0 .0)) (k .1) _ _ _ (char-number _ _ _) (c .if2 .taken)
+returns-3 c =
+    let a = c .before .before .before .before .before .args in
+    c .check-chars .ensures ∙ ap (λ (k : Kind). plainNumber k (a .n) (a .s .now)) (sym (c .before .before .kind2 .given .1))
 
 returns-4 : tie.Need-returns-4
-returns-4 c = let k = c .before .before .kind2 .given in length-other (Char (k .0 .0)) (k .1) _ _ _ (char-number _ _ _) (c .if2 .left)
-
-returns-5 : tie.Need-returns-5
-returns-5 c =
-    let a = c .before .before .before .before .args in
-    ends-missing (a .n) (a .s .now) (c .if3 .taken) ∙ ap (λ (k : Kind). plainNumber k (a .n) (a .s .now)) (sym (c .before .enum-told .given .1))
-
-returns-6 : tie.Need-returns-6
-returns-6 c =
+returns-4 c =
     let a = c .before .before .before .before .before .args in
-    c .check-ends .ensures ∙ ap (λ (k : Kind). plainNumber k (a .n) (a .s .now)) (sym (c .before .before .enum-told .given .1))
+    c .check-blobs .ensures ∙ ap (λ (k : Kind). plainNumber k (a .n) (a .s .now)) (sym (c .before .before .kind3 .given .1))
 
 pub check-spec : {M : Type 1} → statement M
 check-spec =
@@ -57,7 +42,5 @@ check-spec =
     (tie.spec
     (λ c. search needs) (λ c κs. search needs)
     mul-if1
-    (λ c. search needs) (λ c. search needs)
-    mul-if2
-    (λ c. search needs) (λ c. search needs) (λ c κs. search needs)
-    returns returns-2 returns-3 returns-4 returns-5 returns-6)
+    (λ c. search needs) (λ c. search needs) (λ c κs. search needs) (λ c. search needs) (λ c κs. search needs)
+    returns returns-2 returns-3 returns-4)

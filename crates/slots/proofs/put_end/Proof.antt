@@ -11,10 +11,10 @@ cast-ends : tie.Need-cast-ends
 cast-ends c = search needs
 
 mul-ends : tie.Need-mul-ends
-mul-ends c = let h = c .before .before .pre .1 (c .enum-told .given .1) in search needs
+mul-ends c = let h = c .before .before .pre .1 _ (c .enum-told .given .1) in search needs
 
 slice-write-ends : tie.Need-slice-write-ends
-slice-write-ends c = c .before .before .pre .1 (c .enum-told .given .1)
+slice-write-ends c = c .before .before .pre .1 _ (c .enum-told .given .1)
 
 returns-2 : tie.Need-returns-2
 returns-2 c = end-set _ _ _ (c .enum-told .given .1)

@@ -15,17 +15,21 @@ returns-2 c =
     laws.fits-fixed _ _ _ _ _ (k .kind .given .1) (not-false _ (e .if1 .left)) (e .before .before .fits .value) (c .takes .ensures)
 
 returns-3 : tie.Need-returns-3
-returns-3 c = laws.fits-char _ _ _ _ _ (c .before .kind2 .given .1) (not-false _ (c .before .before .before .if1 .left))
+returns-3 c =
+    let k = c .before .before in
+    laws.fits-char _ _ _ _ (k .kind2 .given .1) (not-false _ (k .before .before .if1 .left)) (c .char-fits .ensures)
 
 returns-4 : tie.Need-returns-4
-returns-4 c = laws.fits-blob _ _ _ _ (c .enum-told .given .1) (not-false _ (c .before .before .if1 .left))
+returns-4 c =
+    let k = c .before .before in
+    laws.fits-blob _ _ _ _ (k .kind3 .given .1) (not-false _ (k .before .before .if1 .left)) (c .blob-fits .ensures)
 
 pub row-fits-spec : {M : Type 1} → statement M
 row-fits-spec =
     tie.close
     (tie.spec
     returns
-    (λ c. search needs) (λ c κs. search needs) (λ c. search needs) (λ c. search needs) (λ c. search needs)
+    (λ c. search needs) (λ c κs. search needs) (λ c. search needs) (λ c. search needs) (λ c κs. search needs) (λ c. search needs) (λ c κs. search needs)
     returns-2
     returns-3
     returns-4)

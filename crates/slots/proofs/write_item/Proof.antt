@@ -4,7 +4,8 @@ use native.Mathlib.Omega.{arith}
 use mathlib.Core.Bool.{cond}
 use Rattle.plain.specs.Rows.{null, bytes}
 use Rattle.slots.proofs.Areas.{len-found, flag-found, flag-kept}
-use Rattle.slots.proofs.Items.{char-most, char-fits, row-asked, row-put}
+use Rattle.plain.proofs.Each.{char-short}
+use Rattle.slots.proofs.Items.{char-fits, row-asked, row-put}
 use Rattle.slots.proofs.write_item.Statement.{statement}
 use Rattle.slots.proofs.write_item.Tie as tie
 
@@ -35,7 +36,7 @@ put-len-requires c κs = λ w e.
     let s = start (item-put-at (end-put-at (c .before))) in
     let a = s .args in
     let f = char-fits (a .kind) (a .present) (a .value) (a .item .now) w e (s .pre .0) in
-    let h = char-most w (cond (a .present) (bytes (a .item .now)) null) f in
+    let h = char-short w (cond (a .present) (bytes (a .item .now)) null) f in
     let g = c .before .given-len .ensures in
     (s .pre .5 w e, omega arith)
 

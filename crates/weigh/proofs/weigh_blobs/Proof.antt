@@ -1,10 +1,11 @@
 -- `weigh::weigh_blobs` meets its contract: the law of the loops that weigh, at blob, whose ends are looked at under a null bit too. Assumes nothing.
 use Prim.Native.Nat.{_+_, _-_, _^_, _≤_, _<_}
 use borrow.Author.Needs.{needs}
-use mathlib.Core.Path.{refl}
+use mathlib.Core.Path.{refl, _∙_}
 use native.Mathlib.Omega.{arith}
+use Rattle.encode.specs.Kinds.{blob}
 use Rattle.encode.specs.declared.Kind.the-variants.{Blob}
-use Rattle.plain.proofs.Ranges.{least-found}
+use Rattle.plain.proofs.Ranges.{blob-least}
 use Rattle.source.proofs.Progress as pieces
 use Rattle.weigh.proofs.RunWeights as laws
 use Rattle.weigh.proofs.Weights.{weighing-start, weighing-small, weighing-end}
@@ -55,15 +56,16 @@ blob-weight-requires c κs =
     let q = at-look c in
     let s = entry q in
     let h = laws.weighs-seen _ _ _ _ _ _ (q .before .before .loop .inv) (omega arith) (q .seen-run .ensures) (c .before .look .given .1) in
-    (h .0, s .pre .0 .few, least-found (s .pre .2) (s .args .s .items) (s .args .items .now) (s .pre .0 .whole))
+    (h .0, s .pre .0 .few, blob-least (s .pre .2 .1) (s .args .s .items) (s .args .items .now) (s .pre .0 .whole))
 
 returns-2 : tie.Need-returns-2 Inv-loop μ-loop
 returns-2 c =
     let k = c .before .before .before in
     let q = at-look k in
     let s = entry q in
-    laws.weighs-bad _ _ _ _ _ _ (q .before .before .loop .inv) (omega arith) (q .seen-run .ensures) (k .before .look .given .1) (s .pre .2)
-    (laws.weighty Blob (s .args .s .items) (s .args .items .now) _ (c .before .before .blob-weight .ensures) (c .enum-told2 .given .1))
+    laws.weighs-bad _ _ _ _ _ _ (q .before .before .loop .inv) (omega arith) (q .seen-run .ensures) (k .before .look .given .1) (s .pre .2 .1)
+    (laws.weighty (Blob (s .pre .2 .0)) (s .args .s .items) (s .args .items .now) _
+    (c .before .before .blob-weight .ensures ∙ laws.blob-weight (s .pre .2 .0) (s .args .s .items) (s .args .items .now) _) (c .enum-told2 .given .1))
 
 shown-of-requires : tie.Need-shown-of-requires Inv-loop μ-loop
 shown-of-requires c κs =
@@ -77,7 +79,7 @@ heavier-requires c κs =
     let d = c .before .before in
     let k = looked d in
     let s = entry (at-look k) in
-    let g = laws.weighty Blob (s .args .s .items) (s .args .items .now) _ (d .before .before .before .blob-weight .ensures) (d .before .weight .given .1) in (
+    let g = laws.weighty blob (s .args .s .items) (s .args .items .now) _ (d .before .before .before .blob-weight .ensures) (d .before .weight .given .1) in (
       weighing-small (at-look k .before .before .loop .inv),
       most k .1,
       laws.blob-few (s .args .s .items) (s .args .items .now) _ (g .1) (c .len-of .ensures .2) (s .pre .0 .block),
@@ -101,11 +103,13 @@ loop-again c =
     let q = at-look k in
     let s = entry q in
     let a = s .args in
-    let g = laws.weighty Blob (a .s .items) (a .items .now) _ (d .before .before .before .blob-weight .ensures) (d .before .weight .given .1) in
+    let t = Blob (s .pre .2 .0) in
+    let w = d .before .before .before .blob-weight .ensures ∙ laws.blob-weight (s .pre .2 .0) (a .s .items) (a .items .now) _ in
+    let g = laws.weighty t (a .s .items) (a .items .now) _ w (d .before .weight .given .1) in
     let r = c .before .before .shown-of .ensures in
     let m = c .before .len-of .ensures in
-    laws.weighs-on _ _ _ _ _ _ (q .before .before .loop .inv) (q .before .loop-test .taken) (q .seen-run .ensures) (k .before .look .given .1) (s .pre .2)
-    (g .0) (r .1) (laws.len-shown Blob (a .s .items) (a .items .now) _ (r .0) (g .1) (m .0) (m .1)) (c .heavier .ensures)
+    laws.weighs-on _ _ _ _ _ _ (q .before .before .loop .inv) (q .before .loop-test .taken) (q .seen-run .ensures) (k .before .look .given .1) (s .pre .2 .1)
+    (g .0) (r .1) (laws.len-shown t (a .s .items) (a .items .now) _ (r .0) (g .1) (m .0) (m .1)) (c .heavier .ensures)
 
 returns-3 : tie.Need-returns-3 Inv-loop μ-loop
 returns-3 c = weighing-end (c .before .loop .inv) (omega arith)

@@ -16,12 +16,48 @@ fn width(kind: Kind) -> usize {
         Kind::I32 | Kind::Date => 4,
         Kind::I64 | Kind::Timestamp | Kind::TimestampTz | Kind::Interval | Kind::F64 => 8,
         Kind::Char(width) => width as usize,
-        Kind::Blob => 0,
+        Kind::Blob | Kind::String => 0,
     }
+}
+
+/// Whether items are laid out with ends.
+fn by_ends(kind: Kind) -> bool {
+    matches!(kind, Kind::Blob | Kind::String)
 }
 
 fn is_big(kind: Kind) -> bool {
     matches!(kind, Kind::Date | Kind::Timestamp | Kind::TimestampTz | Kind::Interval)
+}
+
+// ---- text
+
+/// The number of the character at the start of some bytes, and the bytes behind it: its shortest spelling, no surrogate, none above the
+/// last. Nothing where there is none.
+fn character(b: &[u8]) -> Option<(u32, &[u8])> {
+    let (first, rest) = b.split_first()?;
+    let (mut number, more, least) = match first {
+        0x00..=0x7F => (*first as u32, 0, 0),
+        0xC0..=0xDF => (*first as u32 & 0x1F, 1, 0x80),
+        0xE0..=0xEF => (*first as u32 & 0x0F, 2, 0x800),
+        0xF0..=0xF7 => (*first as u32 & 0x07, 3, 0x10000),
+        _ => return None,
+    };
+    for byte in rest.get(..more)? {
+        if byte & 0xC0 != 0x80 {
+            return None;
+        }
+        number = number << 6 | (byte & 0x3F) as u32;
+    }
+    let good = number >= least && number <= 0x10FFFF && !(0xD800..=0xDFFF).contains(&number);
+    good.then_some((number, &rest[more..]))
+}
+
+/// Whether bytes are text.
+pub fn is_text(mut b: &[u8]) -> bool {
+    while let Some((_, rest)) = character(b) {
+        b = rest;
+    }
+    b.is_empty()
 }
 
 // ---- the block of a list of rows
@@ -33,8 +69,8 @@ fn item(kind: Kind, row: &Value) -> Vec<u8> {
             item.resize(width as usize, 0);
             item
         }
-        (Kind::Blob, Value::Bytes(bytes)) => bytes.clone(),
-        (Kind::Blob, _) => Vec::new(),
+        (Kind::Blob | Kind::String, Value::Bytes(bytes)) => bytes.clone(),
+        (Kind::Blob | Kind::String, _) => Vec::new(),
         (_, Value::Int(value)) if is_big(kind) => value.to_be_bytes()[8 - width(kind)..].to_vec(),
         (_, Value::Int(value)) => value.to_le_bytes()[..width(kind)].to_vec(),
         (_, Value::F64(value)) => value.to_bits().to_le_bytes().to_vec(),
@@ -45,7 +81,7 @@ fn item(kind: Kind, row: &Value) -> Vec<u8> {
 fn plain_of(kind: Kind, rows: &[Value]) -> Vec<u8> {
     let data: Vec<Vec<u8>> = rows.iter().map(|row| item(kind, row)).collect();
     let mut block = Vec::new();
-    if kind == Kind::Blob {
+    if by_ends(kind) {
         let mut end = 0;
         for bytes in &data {
             end += bytes.len() as u32;
@@ -131,9 +167,25 @@ pub fn block_of(column: Column, rows: &[Value]) -> Vec<u8> {
 
 // ---- opening's number
 
+/// Whether item `place` is text, where it has to be: of char up to its first NUL, of string whole.
+fn is_text_at(kind: Kind, n: u64, b: &[u8], place: usize) -> bool {
+    match plain_row(kind, n, b, place) {
+        Value::Bytes(bytes) => kind == Kind::Blob || is_text(&bytes),
+        _ => true,
+    }
+}
+
 fn plain_number(kind: Kind, n: u64, b: &[u8]) -> u8 {
+    match lengths_number(kind, n, b) {
+        0 if (0..n as usize).all(|place| is_text_at(kind, n, b, place)) => 0,
+        0 => 17,
+        number => number,
+    }
+}
+
+fn lengths_number(kind: Kind, n: u64, b: &[u8]) -> u8 {
     let len = b.len() as u64;
-    if kind != Kind::Blob {
+    if !by_ends(kind) {
         return if len == n * width(kind) as u64 { 0 } else { 11 };
     }
     if len < 4 * n {
@@ -297,7 +349,7 @@ pub fn open_number(column: Column, n: u64, b: &[u8]) -> u8 {
 fn plain_row(kind: Kind, n: u64, b: &[u8], place: usize) -> Value {
     let w = width(kind);
     match kind {
-        Kind::Blob => {
+        Kind::Blob | Kind::String => {
             let from = if place == 0 { 0 } else { u32_at(b, 4 * place - 4) as usize };
             let data = &b[4 * n as usize..];
             Value::Bytes(data[from..u32_at(b, 4 * place) as usize].to_vec())
@@ -389,7 +441,7 @@ impl Chance {
 }
 
 /// The kinds' numbers, and how many pairs of a kind and an encoding there are.
-const KINDS: [u64; 11] = [0, 1, 2, 3, 4, 5, 6, 7, 8, 9, 11];
+const KINDS: [u64; 12] = [0, 1, 2, 3, 4, 5, 6, 7, 8, 9, 10, 11];
 pub const PAIRS: u64 = 5 * KINDS.len() as u64;
 
 /// Every pair of a kind and an encoding, by a number below [`PAIRS`]; char with the given width.
@@ -398,7 +450,26 @@ pub fn column(pair: u64, width: u64) -> Column {
     Column::numbered(kind, pair % 5, if kind == 8 { width } else { 0 }).expect("one of the pairs")
 }
 
-/// A row that isn't null. Char rows are text.
+/// Text of so many bytes.
+fn some_text(len: u64, chance: &mut Chance) -> Value {
+    let mut text = String::new();
+    while (text.len() as u64) < len {
+        let next = match chance.below(10) {
+            0 => '\0',
+            1 => 'é',
+            2 => '\u{7f}',
+            3 => ['\u{80}', '\u{7ff}', '\u{800}', '\u{d7ff}', '\u{e000}', '\u{ffff}', '\u{10000}', '\u{10ffff}']
+                [chance.below(8) as usize],
+            _ => (b'a' + chance.below(4) as u8) as char,
+        };
+        if text.len() + next.len_utf8() <= len as usize {
+            text.push(next);
+        }
+    }
+    Value::Bytes(text.into_bytes())
+}
+
+/// A row that isn't null. Char and string rows are text.
 fn some_row(kind: Kind, chance: &mut Chance) -> Value {
     let integer = |chance: &mut Chance, bits: u32| {
         let value = match chance.below(6) {
@@ -420,26 +491,17 @@ fn some_row(kind: Kind, chance: &mut Chance) -> Value {
                 1 => 0,
                 _ => chance.below(width as u64 + 1),
             };
-            let mut text = String::new();
-            while (text.len() as u64) < len {
-                let next = match chance.below(8) {
-                    0 => '\0',
-                    1 => 'é',
-                    2 => '\u{7f}',
-                    _ => (b'a' + chance.below(4) as u8) as char,
-                };
-                if text.len() + next.len_utf8() <= len as usize {
-                    text.push(next);
-                }
-            }
-            Value::Bytes(text.into_bytes())
+            some_text(len, chance)
         }
-        Kind::Blob => {
+        Kind::Blob | Kind::String => {
             let len = match chance.below(12) {
                 0..=1 => 0,
                 2 => chance.below(300),
                 _ => chance.below(9),
             };
+            if kind == Kind::String {
+                return some_text(len, chance);
+            }
             Value::Bytes((0..len).map(|_| if chance.one_in(3) { 0 } else { chance.number() as u8 }).collect())
         }
         Kind::F64 => Value::F64(some_float(chance)),
@@ -481,7 +543,7 @@ pub fn some_rows(kind: Kind, most: u64, chance: &mut Chance) -> Vec<Value> {
 pub fn stored(column: Column, row: &Value) -> Value {
     match row {
         Value::Null if matches!(column.encoding, Encoding::Plain | Encoding::RunLength) => match column.kind {
-            Kind::Char(_) | Kind::Blob => Value::Bytes(Vec::new()),
+            Kind::Char(_) | Kind::Blob | Kind::String => Value::Bytes(Vec::new()),
             Kind::F64 => Value::F64(0.0),
             _ => Value::Int(0),
         },
@@ -550,22 +612,6 @@ pub fn counts_of(column: Column, b: &[u8]) -> Vec<u64> {
     }
 }
 
-/// All stored items of a sound block, those under a null and entries that no key names too.
-pub fn items_of(column: Column, n: u64, b: &[u8]) -> Vec<Value> {
-    let all = |count: u64, items: &[u8]| (0..count).map(|place| plain_row(column.kind, count, items, place as usize)).collect();
-    match column.encoding {
-        Encoding::Plain | Encoding::Nullable => all(n, b),
-        Encoding::RunLength | Encoding::RunLengthNullable => {
-            let (counts, inner) = runs_of(b);
-            all(counts.len() as u64, inner)
-        }
-        Encoding::Dictionary => {
-            let (_, entries, rest) = dictionary_parts(b);
-            all(entries, rest)
-        }
-    }
-}
-
 /// The first row of each run of equal rows.
 fn first_of_runs(rows: &[Value]) -> Vec<Value> {
     rows.iter().enumerate().filter(|(place, row)| *place == 0 || rows[place - 1] != **row).map(|(_, row)| row.clone()).collect()
@@ -614,8 +660,8 @@ pub fn should_finish(column: Column, target: usize, rows: &[Value], next: &Value
     let stored = stored_rows(column, rows);
     let bytes: usize = stored.iter().map(|row| item(kind, row).len()).sum();
     let next = match (kind, next) {
-        (Kind::Blob, Value::Bytes(next)) => next.len() + 4,
-        (Kind::Blob, _) => 4,
+        (Kind::Blob | Kind::String, Value::Bytes(next)) => next.len() + 4,
+        (Kind::Blob | Kind::String, _) => 4,
         _ => width(kind),
     };
     let flag = matches!(column.encoding, Encoding::Nullable | Encoding::RunLengthNullable) as usize;

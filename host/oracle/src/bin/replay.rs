@@ -124,17 +124,18 @@ impl Script {
     }
 
     /// The commands that read a block by skips and batches to its end, a little past it or for some calls, and the answers. The original
-    /// panics on some blocks that are sound (docs/DIFFERENCES.md): then nothing is stored.
+    /// panics on some blocks that are sound (docs/DIFFERENCES.md): then nothing is stored, nor where the program has no room for a batch.
     fn read(&mut self, column: Column, n: u64, block: &[u8], chance: &mut Chance) {
         let before = (self.commands.len(), self.answers.len(), self.calls);
-        if caught(|| self.read_on(column, n, block, chance)).is_none() {
+        if caught(|| self.read_on(column, n, block, chance)) != Some(true) {
             self.commands.truncate(before.0);
             self.answers.truncate(before.1);
             self.calls = before.2;
         }
     }
 
-    fn read_on(&mut self, column: Column, n: u64, block: &[u8], chance: &mut Chance) {
+    /// Whether the program has room for all that was read.
+    fn read_on(&mut self, column: Column, n: u64, block: &[u8], chance: &mut Chance) -> bool {
         let mut original = oracle::reader(column, n as usize, padded(block));
         let mut rows = Vec::new();
         self.number(3);
@@ -145,7 +146,7 @@ impl Script {
         for _ in 0..3 + chance.below(4) {
             let left = original.remaining() as u64;
             if left == 0 && !chance.one_in(3) {
-                return;
+                return true;
             }
             if chance.one_in(3) {
                 let skip = if chance.one_in(5) { chance.below(left + 1) } else { chance.below(left.min(6) + 1) };
@@ -156,6 +157,9 @@ impl Script {
             } else {
                 let size = 1 + if chance.one_in(6) { chance.below(MOST_ROWS) } else { chance.below(6) };
                 let given = original.batch(size as usize, &mut rows);
+                if weight(&rows) > MOST_BYTES {
+                    return false;
+                }
                 self.number(5);
                 self.number(size);
                 self.say(format_args!("batch {given:x}:"));
@@ -166,6 +170,7 @@ impl Script {
             self.say(format_args!(" left {:x}\n", original.remaining()));
             self.calls += 1;
         }
+        true
     }
 }
 

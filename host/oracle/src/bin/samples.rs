@@ -1,4 +1,4 @@
-//! Builds document 01's block samples A to E, H, and one of floats with the original, and compares them byte for byte.
+//! Builds document 01's block samples A to E, H, one of floats and two of strings with the original, and compares them byte for byte.
 use idzulgar::{Column, Value};
 use oracle::build;
 
@@ -40,6 +40,15 @@ fn main() {
             0,
             vec![Value::F64(1.0), Value::F64(1.0), Value::F64(-0.0)],
             "02000000 02000000 02 01 000000000000F03F 0000000000000080",
+        ),
+        ("strings", 10, 0, 0, vec![bytes("é"), Value::Null, bytes("€")], "02000000 02000000 05000000 C3A9 E282AC"),
+        (
+            "a dictionary of strings",
+            10,
+            4,
+            0,
+            vec![bytes("é"), Value::Null, bytes("é"), bytes("€")],
+            "000000000000001C 00000002 04000000 04000000 01010101 01000080 00000080 01000080 02000080 02000000 05000000 C3A9 E282AC",
         ),
         ("H, nullable", 2, 1, 0, vec![], "00000000"),
         ("H, run-length", 2, 2, 0, vec![], ""),

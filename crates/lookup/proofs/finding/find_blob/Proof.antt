@@ -5,7 +5,7 @@ use mathlib.Core.Bool.{false}
 use mathlib.Core.List.{[]}
 use native.Mathlib.Omega.{arith}
 use borrow.Author.Needs.{needs}
-use Rattle.encode.specs.declared.Kind.the-variants.{Blob}
+use Rattle.encode.specs.Kinds.{blob}
 use Rattle.plain.specs.Rows.{bytes}
 use Rattle.lookup.specs.Held.{Held, held, itemStart, fieldWrong, lookFrom, lookUp}
 use Rattle.lookup.proofs.FieldTests.{start-next}
@@ -15,7 +15,7 @@ use Rattle.lookup.proofs.finding.find_blob.Statement.{statement}
 use Rattle.lookup.proofs.finding.find_blob.Tie as tie
 
 abbrev Inv-loop : tie.InvT-loop
-Inv-loop items len ends n item i₀ from₀ i from = Passed (lookFrom Blob n len (held items ends []) (bytes item)) n i × (from ≡ itemStart ends i)
+Inv-loop items len ends n item i₀ from₀ i from = Passed (lookFrom blob n len (held items ends []) (bytes item)) n i × (from ≡ itemStart ends i)
 
 abbrev μ-loop : tie.MeasureT-loop
 μ-loop items len ends n item i₀ from₀ i from = n - i
@@ -36,7 +36,7 @@ blob-wrong-requires c κs = (omega arith, start (c .before) .pre .0, c .before .
 
 -- what the test of the ends said of the item
 told : (c : tie.After-blob-wrong Inv-loop μ-loop) → let l = c .before .before in let s = start l in
-    c .blob-wrong .result ≡ fieldWrong Blob (s .args .n) (s .args .len) (areas s) (l .loop .i)
+    c .blob-wrong .result ≡ fieldWrong blob (s .args .n) (s .args .len) (areas s) (l .loop .i)
 told c =
     let l = c .before .before in
     let a = start l .args in
@@ -48,10 +48,10 @@ returns c =
     let l = c .before .before .before in
     let s = start l in
     passed-stop (l .loop .inv .0) (omega arith)
-    (look-wrong Blob (s .args .n) (s .args .len) (areas s) (bytes (s .args .item .now)) (l .loop .i) (sym (told (c .before)) ∙ c .if1 .taken))
+    (look-wrong blob (s .args .n) (s .args .len) (areas s) (bytes (s .args .item .now)) (l .loop .i) (sym (told (c .before)) ∙ c .if1 .taken))
 
 good : (c : tie.Else1 Inv-loop μ-loop) → let l = c .before .before .before in let s = start l in
-    fieldWrong Blob (s .args .n) (s .args .len) (areas s) (l .loop .i) ≡ false
+    fieldWrong blob (s .args .n) (s .args .len) (areas s) (l .loop .i) ≡ false
 good c = sym (told (c .before)) ∙ c .if1 .left
 
 same-blob-requires : tie.Need-same-blob-requires Inv-loop μ-loop
@@ -67,7 +67,7 @@ returns-2 c =
     let l = e .before .before .before in
     let s = start l in
     passed-stop (l .loop .inv .0) (omega arith)
-    (look-here Blob (s .args .n) (s .args .len) (areas s) (bytes (s .args .item .now)) (l .loop .i) (good e)
+    (look-here blob (s .args .n) (s .args .len) (areas s) (bytes (s .args .item .now)) (l .loop .i) (good e)
     (sym (c .before .same-blob .ensures) ∙ c .if2 .taken))
 
 end-in-requires : tie.Need-end-in-requires Inv-loop μ-loop
@@ -78,7 +78,7 @@ loop-again c =
     let e = c .before .before .before in
     let l = e .before .before .before in
     let s = start l in
-    let next = look-later Blob (s .args .n) (s .args .len) (areas s) (bytes (s .args .item .now)) (l .loop .i) (good e) in (
+    let next = look-later blob (s .args .n) (s .args .len) (areas s) (bytes (s .args .item .now)) (l .loop .i) (good e) in (
       passed-step (l .loop .inv .0) (omega arith) (next (sym (c .before .before .same-blob .ensures) ∙ c .before .if2 .left)),
       start-next _ _ (c .end-in .ensures .0),
     )

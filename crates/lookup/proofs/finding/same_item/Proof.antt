@@ -3,7 +3,7 @@ use mathlib.Core.Path.{ap, _∙_}
 use mathlib.Core.List.{[]}
 use native.Mathlib.Omega.{arith}
 use borrow.Author.Needs.{needs}
-use Rattle.encode.specs.declared.Kind.the-variants.{Blob}
+use Rattle.encode.specs.Kinds.{blob}
 use Rattle.plain.specs.Rows.{sameInt}
 use Rattle.lookup.specs.Held.{Held, held}
 use Rattle.lookup.specs.Asking.{ItemThere}
@@ -33,7 +33,7 @@ same-char-requires c κs =
 
 -- a blob item is there with its ends
 there : (c : tie.After-enum-told) → let s = start (c .before .before) in let a = s .args in
-    ItemThere Blob (held (a .items .now) (a .ends .now) []) (a .i)
+    ItemThere blob (held (a .items .now) (a .ends .now) []) (a .i)
 there c =
     let s = start (c .before .before) in
     let a = s .args in

@@ -46,7 +46,7 @@ impl Memory {
         let flagged = matches!(column.encoding, Encoding::Nullable | Encoding::RunLengthNullable);
         Memory {
             items: vec![1; len],
-            ends: vec![1; when(column.kind == Kind::Blob, rows)],
+            ends: vec![1; when(matches!(column.kind, Kind::Blob | Kind::String), rows)],
             flags: vec![1; when(flagged, rows.div_ceil(8))],
             counts: vec![1; when(coded, rows)],
             keys: vec![1; when(column.encoding == Encoding::Dictionary, rows)],
@@ -71,7 +71,7 @@ impl Memory {
 fn items_len(column: Column, rows: &[Value]) -> usize {
     match column.kind {
         Kind::Char(width) => rows.len() * width as usize,
-        Kind::Blob => rows.iter().map(|row| parts(row).2.len()).sum(),
+        Kind::Blob | Kind::String => rows.iter().map(|row| parts(row).2.len()).sum(),
         _ => 8 * rows.len(),
     }
 }
@@ -141,7 +141,7 @@ impl Case {
 /// A dictionary that holds all its entries, each used once, as appends would have left it.
 fn dictionary(kind: Kind, entries: usize, more: usize) -> (Case, BuilderRecord, Vec<Value>) {
     let entry = |place: usize| match kind {
-        Kind::Char(_) | Kind::Blob => text(place as u64, 9),
+        Kind::Char(_) | Kind::Blob | Kind::String => text(place as u64, 9),
         _ => Value::Int(place as i64),
     };
     let column = Column::new(kind, Encoding::Dictionary);
@@ -209,6 +209,26 @@ fn check_by_hand() {
     }
 }
 
+/// Nanoseconds of an append with the loop around it, by the port and by hand.
+pub fn append_times(name: &str) -> (f64, f64) {
+    let mut case = Case::named(name, COUNT_ROWS, 200);
+    let record = case.create();
+    let (mut port, mut hand) = (f64::MAX, f64::MAX);
+    for _ in 0..5 * ROUNDS {
+        port = port.min(best(1, || _ = black_box(case.append_all(record, black_box(PORT), false))) / COUNT_ROWS as f64);
+        hand = hand.min(best(1, || _ = black_box(case.append_all(record, black_box(BY_HAND), false))) / COUNT_ROWS as f64);
+    }
+    (port, hand)
+}
+
+/// Instructions of an append, by the port and by hand. The port appends all rows three times in that run, the call by hand twice.
+pub fn append_counts(name: &str) -> (f64, f64) {
+    let rows = COUNT_ROWS.to_string();
+    let each =
+        |function, side, times| counted_in(function, "building", &["append", name, side, &rows]) / (times * COUNT_ROWS) as f64;
+    (each("idz_append", "port", 3), each("hand_append", "by hand", 2))
+}
+
 /// The kinds whose lookup is measured.
 const LOOKUPS: [(&str, Kind); 4] = [("i32", Kind::I32), ("i64", Kind::I64), ("char 16", Kind::Char(16)), ("blob", Kind::Blob)];
 const LOOKUP_ENTRIES: usize = 4_096;
@@ -232,13 +252,7 @@ pub fn times() {
 
     println!("\n| one append with the loop around it, 20,000 rows | port, ns | by hand, ns | by hand / port |\n|---|---|---|---|");
     for name in NAMES {
-        let mut case = Case::named(name, COUNT_ROWS, 200);
-        let record = case.create();
-        let (mut port, mut hand) = (f64::MAX, f64::MAX);
-        for _ in 0..5 * ROUNDS {
-            port = port.min(best(1, || _ = black_box(case.append_all(record, black_box(PORT), false))) / COUNT_ROWS as f64);
-            hand = hand.min(best(1, || _ = black_box(case.append_all(record, black_box(BY_HAND), false))) / COUNT_ROWS as f64);
-        }
+        let (port, hand) = append_times(name);
         println!("| {name} | {port:.1} | {hand:.1} | {:.2} |", hand / port);
     }
 
@@ -303,10 +317,7 @@ pub fn instructions() {
 
     println!("\n| one append, 20,000 rows | port, instructions | by hand | by hand / port |\n|---|---|---|---|");
     for name in NAMES {
-        // the port appends all rows three times in that run, the call by hand twice
-        let each =
-            |function, side, times| counted_in(function, "building", &["append", name, side, &rows]) / (times * COUNT_ROWS) as f64;
-        let (port, hand) = (each("idz_append", "port", 3), each("hand_append", "by hand", 2));
+        let (port, hand) = append_counts(name);
         println!("| {name} | {port:.1} | {hand:.1} | {:.2} |", hand / port);
     }
 

@@ -10,8 +10,14 @@ const ENTRIES: usize = 1 << 16;
 const BLOCK: usize = 1 << 24;
 const CHAR: usize = 8;
 const BLOB: usize = 9;
+const STRING: usize = 10;
 
-/// The bytes of a fixed or char item; 0 for a blob; nothing if the record names no pair.
+#[inline]
+fn has_ends(b: &BuilderRecord) -> bool {
+    b.kind == BLOB || b.kind == STRING
+}
+
+/// The bytes of a fixed or char item; 0 for a blob or string; nothing if the record names no pair.
 #[inline]
 fn width_of(b: &BuilderRecord) -> Option<usize> {
     let width = match b.kind {
@@ -20,7 +26,7 @@ fn width_of(b: &BuilderRecord) -> Option<usize> {
         2 | 4 => 4,
         3 | 5 | 6 | 7 | 11 => 8,
         CHAR if (1..=255).contains(&b.width) => return (b.encoding <= 4).then_some(b.width),
-        BLOB => 0,
+        BLOB | STRING => 0,
         _ => return None,
     };
     (b.encoding <= 4 && b.width == 0).then_some(width)
@@ -57,7 +63,7 @@ fn past_limits(b: &BuilderRecord) -> bool {
     }
     let n = stored(b);
     let mut len = b.bytes;
-    if b.kind == BLOB {
+    if has_ends(b) {
         len += 4 * n;
     }
     if is_flagged(b) {
@@ -89,7 +95,7 @@ fn is_wrong(b: &BuilderRecord, width: usize) -> bool {
     if is_coded(b) && b.counts > BLOCK || b.bytes > BLOCK || past_limits(b) {
         return true;
     }
-    if b.kind == BLOB {
+    if has_ends(b) {
         stored(b) == 0 && b.bytes != 0
     } else {
         b.bytes != stored(b) * width
@@ -100,7 +106,7 @@ fn is_wrong(b: &BuilderRecord, width: usize) -> bool {
 fn is_short(b: &BuilderRecord, areas: &Areas<'_>) -> bool {
     let n = stored(b);
     areas.items.len() < b.bytes
-        || b.kind == BLOB && areas.ends.len() < n
+        || has_ends(b) && areas.ends.len() < n
         || b.kind == CHAR && areas.lens.len() < n
         || is_flagged(b) && areas.flags.len() < n.div_ceil(8)
         || is_coded(b) && areas.counts.len() < b.runs
@@ -164,7 +170,7 @@ fn same_as_last(b: &BuilderRecord, areas: &Areas<'_>, width: usize, value: i64, 
             let len = areas.lens[i] as usize;
             (len <= width).then(|| areas.items[i * width..i * width + len] == *item)
         }
-        BLOB => {
+        BLOB | STRING => {
             let (from, to) = blob_at(areas.ends, b.runs, b.bytes, i)?;
             Some(areas.items[from..to] == *item)
         }
@@ -194,7 +200,7 @@ fn look_up(b: &BuilderRecord, areas: &Areas<'_>, width: usize, value: i64, item:
                 }
             }
         }
-        (BLOB, _) => {
+        (BLOB | STRING, _) => {
             let mut from = 0;
             for (i, to) in areas.ends[..n].iter().enumerate() {
                 let to = *to as usize;
@@ -275,15 +281,16 @@ fn append_in(b: BuilderRecord, areas: Areas<'_>, present: bool, value: i64, item
     }
     let Some((new, joins, key)) = step(&b, &areas, width, present, value, item) else { return refused(9) };
     let fits = match b.kind {
-        CHAR => item.len() <= width,
+        CHAR => item.len() <= width && (!present || std::str::from_utf8(item).is_ok()),
         BLOB => true,
+        STRING => !present || std::str::from_utf8(item).is_ok(),
         kind => takes(kind, value),
     };
     if present && !fits {
         return refused(2);
     }
     let given = if present { item.len() } else { 0 };
-    let len = if b.kind == BLOB { given } else { width };
+    let len = if has_ends(&b) { given } else { width };
     if new && len > BLOCK {
         return refused(3);
     }
@@ -321,7 +328,7 @@ fn append_in(b: BuilderRecord, areas: Areas<'_>, present: bool, value: i64, item
                 room[given..].fill(0);
                 areas.lens[i] = given as u8;
             }
-            BLOB => {
+            BLOB | STRING => {
                 areas.items[at..at + given].copy_from_slice(&item[..given]);
                 areas.ends[i] = next.bytes as u32;
             }

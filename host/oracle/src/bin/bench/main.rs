@@ -1,7 +1,7 @@
 //! Reads and builds the same blocks by the port and by the original, in one run, and prints tables for docs/BENCHMARKS.md.
 //!
-//!     bench [reading|building|runs]                  times: nanoseconds a row, best of several rounds, and ratios
-//!     bench instructions [reading|building|runs]     instructions a row by the script `count`: the same whatever else the machine does
+//!     bench [reading|building|runs|texts]                  times: nanoseconds a row, best of several rounds, and ratios
+//!     bench instructions [reading|building|runs|texts]     instructions a row by the script `count`: the same whatever else the machine does
 use std::hint::black_box;
 use std::process::Command;
 use std::time::Instant;
@@ -12,6 +12,7 @@ mod building;
 mod by_hand;
 mod reading;
 mod runs;
+mod texts;
 
 /// The five cases of the design.
 const NAMES: [&str; 5] = ["i64 plain", "i32 nullable", "i32 run-length", "blob dictionary", "char 16 plain"];
@@ -76,21 +77,26 @@ fn main() {
             reading::times();
             building::times();
             runs::times();
+            texts::times();
         }
         ["reading"] => reading::times(),
         ["building"] => building::times(),
         ["runs"] => runs::times(),
+        ["texts"] => texts::times(),
         ["instructions"] => {
             reading::instructions();
             building::instructions();
             runs::instructions();
+            texts::instructions();
         }
         ["instructions", "reading"] => reading::instructions(),
         ["instructions", "building"] => building::instructions(),
         ["instructions", "runs"] => runs::instructions(),
+        ["instructions", "texts"] => texts::instructions(),
         ["count", "reading", ref words @ ..] => reading::count(words),
         ["count", "building", ref words @ ..] => building::count(words),
         ["count", "runs", ref words @ ..] => runs::count(words),
-        _ => panic!("bench [instructions] [reading|building|runs]"),
+        ["count", "texts", ref words @ ..] => texts::count(words),
+        _ => panic!("bench [instructions] [reading|building|runs|texts]"),
     }
 }

@@ -37,7 +37,7 @@ pub fn rows_of(name: &str, rows: usize, entries: u64) -> (Column, Vec<Value>) {
             let row = |chance: &mut Chance| text(chance.below(100_000), 5 + chance.below(6) as usize);
             (plain(Kind::Blob), (0..rows).map(|_| row(&mut chance)).collect())
         }
-        _ => panic!("no case {name}"),
+        _ => crate::texts::rows_of(name, rows),
     }
 }
 

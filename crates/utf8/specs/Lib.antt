@@ -1,0 +1,3 @@
+pub mod Utf8
+pub mod Sequences
+pub mod States
