@@ -74,7 +74,8 @@ pub fn crafted(column: Column, spelling: Spelling, chance: &mut Chance) -> (Vec<
     }
 }
 
-/// A block with a byte of its text changed, if it has one above ASCII, to one that starts, goes on or has no place in a character.
+/// A block with a byte above 127 changed, if it has one (of a text, a count or a key), to one that starts, goes on or has no place in a
+/// character.
 pub fn text_damaged(block: &[u8], chance: &mut Chance) -> Vec<u8> {
     const TELLING: [u8; 12] = [0x00, b'a', 0x80, 0xBF, 0xC0, 0xC2, 0xE0, 0xED, 0xF0, 0xF4, 0xF5, 0xFF];
     let mut block = block.to_vec();
