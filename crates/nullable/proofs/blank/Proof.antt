@@ -1,7 +1,8 @@
 -- `nullable::blank` meets its contract. The loop's invariant is `Blanking`, its measure the rows that are left. Assumes nothing.
 use Prim.Native.Nat.{_-_}
 use native.Mathlib.Omega.{arith}
-use mathlib.Core.Logic.{⊎-elim}
+use mir.Syntax.{w64}
+use mir.Facts.{toZ-ofZ}
 use borrow.Author.Needs.{needs}
 use Rattle.nullable.proofs.Rows as laws
 use Rattle.nullable.proofs.blank.Statement.{statement}
@@ -18,11 +19,9 @@ loop-holds c = laws.blanking-start _ _ _
 
 loop-again : tie.Need-loop-again Inv-loop μ-loop
 loop-again c =
-    let g = c .before .before .before .loop .inv in
-    ⊎-elim
-    (λ w. laws.blanking-null g (omega arith) (w .0 .taken) (w .1))
-    (λ w. laws.blanking-value g (omega arith) (w .0 .left) (w .1))
-    (c .if1 .came)
+    let s = c .before in
+    let v = rw (toZ-ofZ {w = w64} (record { sfits = s .shown-arg .given })) at (c .shown .ensures) in
+    laws.blanking-step (s .before .before .before .loop .inv) (omega arith) v (search needs)
 
 returns : tie.Need-returns Inv-loop μ-loop
 returns c = laws.blanking-end (c .before .loop .inv) (omega arith)
@@ -32,7 +31,7 @@ blank-spec =
     tie.close
     (tie.spec Inv-loop μ-loop
     loop-holds
-    (λ c. search needs) (λ c. search needs) (λ c. search needs) (λ c. search needs) (λ c. search needs)
+    (λ c. search needs) (λ c. search needs) (λ c. search needs) (λ c κs. search needs) (λ c. search needs) (λ c. search needs) (λ c. search needs) (λ c. search needs)
     loop-again
     (λ c. search needs)
     returns)

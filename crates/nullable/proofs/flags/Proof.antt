@@ -16,8 +16,14 @@ abbrev μ-loop : tie.MeasureT-loop
 loop-holds : tie.Need-loop-holds Inv-loop μ-loop
 loop-holds c = laws.telling-start _ _ _ _
 
+put-some-requires : tie.Need-put-some-requires Inv-loop μ-loop
+put-some-requires c κs = let g = c .before .before .loop .inv in let r = g .room in (omega arith, omega arith, omega arith)
+
 loop-again : tie.Need-loop-again Inv-loop μ-loop
-loop-again c = laws.telling-step (c .before .before .loop .inv) (omega arith) (c .bit-at .ensures .0)
+loop-again c =
+    let p = c .before .before in
+    let g = p .before .before .before .loop .inv in
+    laws.telling-some g (p .put-some .ensures .0 .1) (omega arith) (p .put-some .ensures .1)
 
 returns : tie.Need-returns Inv-loop μ-loop
 returns c = laws.telling-end (c .before .loop .inv) (omega arith)
@@ -27,7 +33,9 @@ flags-spec =
     tie.close
     (tie.spec Inv-loop μ-loop
     loop-holds
-    (λ c. search needs) (λ c κs. search needs) (λ c. search needs) (λ c. search needs) (λ c. search needs)
+    (λ c. search needs) (λ c. search needs)
+    put-some-requires
+    (λ c. search needs) (λ c. search needs)
     loop-again
     (λ c. search needs)
     returns)

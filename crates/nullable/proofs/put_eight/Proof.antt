@@ -1,0 +1,53 @@
+-- `nullable::put_eight` meets its contract: its stores are those of the eight bits, one after another. Assumes nothing.
+use native.Mathlib.Omega.{arith}
+use lib.ListN.{length-set}
+use borrow.Author.Needs.{needs}
+use Rattle.nullable.proofs.Rows.{eight-stores}
+use Rattle.nullable.proofs.put_eight.Statement.{statement}
+use Rattle.nullable.proofs.put_eight.Tie as tie
+
+slice-write-out-2 : tie.Need-slice-write-out-2
+slice-write-out-2 c = simp length-set (omega arith)
+
+slice-write-out-3 : tie.Need-slice-write-out-3
+slice-write-out-3 c = simp length-set (omega arith)
+
+slice-write-out-4 : tie.Need-slice-write-out-4
+slice-write-out-4 c = simp length-set (omega arith)
+
+slice-write-out-5 : tie.Need-slice-write-out-5
+slice-write-out-5 c = simp length-set (omega arith)
+
+slice-write-out-6 : tie.Need-slice-write-out-6
+slice-write-out-6 c = simp length-set (omega arith)
+
+slice-write-out-7 : tie.Need-slice-write-out-7
+slice-write-out-7 c = simp length-set (omega arith)
+
+slice-write-out-8 : tie.Need-slice-write-out-8
+slice-write-out-8 c = simp length-set (omega arith)
+
+returns : tie.Need-returns
+returns c = eight-stores (c .args .byte) (c .args .at) (c .args .out .now)
+
+pub put-eight-spec : {M : Type 1} → statement M
+put-eight-spec =
+    tie.close
+    (tie.spec
+    (λ c. search needs)
+    (λ c. search needs)
+    slice-write-out-2
+    (λ c. search needs)
+    slice-write-out-3
+    (λ c. search needs)
+    slice-write-out-4
+    (λ c. search needs)
+    slice-write-out-5
+    (λ c. search needs)
+    slice-write-out-6
+    (λ c. search needs)
+    slice-write-out-7
+    (λ c. search needs)
+    slice-write-out-8
+    (λ c. search needs)
+    returns)
