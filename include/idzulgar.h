@@ -4,7 +4,7 @@
  * Every call takes any numbers, records and bytes, and answers with a number below; 0 is done. A refusal hands back the record that
  * it was given, counts of 0, and writes nothing; idz_remaining, idz_finish, idz_estimate and idz_should_finish hand it back when done,
  * too. Opening and creation are given no record: beside their refusal stands one of kind 255, which every call refuses as 9, but for
- * a batch of 0 rows, which is 6.
+ * a read that passes over no rows and gives none, which is 6.
  *
  * What no call can test, and the caller sees to: a pointer that goes with a length points to that many items and is aligned for them
  * (with length 0 it may be NULL or point anywhere); memory that a call writes overlaps nothing else that the call is lent.
@@ -35,8 +35,8 @@ enum {
     IDZ_LIMIT = 3,       /* a limit is passed: rows 281,474,976,710,655; stored items or runs 1,048,576; entries 65,536;
                             block 16,777,216 bytes */
     IDZ_ROOM = 4,        /* lent room is too short for the whole answer */
-    IDZ_NO_ROWS = 6,     /* a batch of 0 rows */
-    IDZ_TOO_FAR = 7,     /* a skip above the rows remaining */
+    IDZ_NO_ROWS = 6,     /* nothing asked for: a read that passes over no rows and gives none */
+    IDZ_TOO_FAR = 7,     /* more rows to pass over than remain */
     IDZ_DISAGREE = 9,    /* the record and the lent memory disagree: another length, a record that contradicts itself, or a field
                             that changed since opening */
     IDZ_CUT = 10,        /* the block is cut */
@@ -90,11 +90,6 @@ typedef struct {
 
 typedef struct {
     uint8_t number;
-    idz_reader reader;
-} idz_skipped;
-
-typedef struct {
-    uint8_t number;
     size_t rows;
     idz_reader reader; /* as it was given */
 } idz_left;
@@ -137,15 +132,20 @@ typedef struct {
 /* Opens a block of `rows` rows: 0 exactly for a sound block, else 1, 3 or 10 to 17. The block isn't kept: lend it to each call. */
 idz_opening idz_open(size_t kind, size_t encoding, size_t width, size_t rows, const uint8_t *block, size_t block_len);
 
-/* Gives min(size, rows remaining) rows; at the end that is 0 rows. Fixed kinds write one i64 a row to `values`; char and blob write
- * their bytes to `bytes`, one after another, and to `ends` where each row's bytes end. `flags` gets 1 a row, 0 for a null, whose
- * value is 0 or no bytes. Areas that the kind doesn't use may have length 0. Refuses 6, 9, 4 in this order. Text isn't tested again: of a
- * block that changed since it was opened, bytes that aren't text any more are handed out as they are. */
-idz_given idz_batch(idz_reader reader, const uint8_t *block, size_t block_len, size_t size, int64_t *values, size_t values_len,
-                    uint8_t *flags, size_t flags_len, uint32_t *ends, size_t ends_len, uint8_t *bytes, size_t bytes_len);
-
-/* Passes over rows. Refuses 9, 7. A skip of 0 rows is done anywhere. */
-idz_skipped idz_skip(idz_reader reader, const uint8_t *block, size_t block_len, size_t rows);
+/* Passes over `skip` rows, then gives min(size, rows remaining behind them) rows; at the end that is 0 rows. It is done whole or not at
+ * all: the reader of a refusal stands before the rows that were to be passed over. If size is 0 it only passes over rows, and all areas may
+ * have length 0.
+ *
+ * Fixed kinds write one i64 a row to `values`; char and blob write their bytes to `bytes`, one after another, and to `ends` where each
+ * row's bytes end. `flags` gets 1 a row, 0 for a null, whose value is 0 or no bytes. Areas that the kind doesn't use may have length 0.
+ *
+ * Refuses in this order: 6 if skip and size are both 0, whatever else is lent; 9 for another length of the block, or a record that
+ * contradicts itself; 7 if skip is above the rows remaining; 9 for a field, which is a run count of a row passed over or given, or an end
+ * or a key of a row given; 4 for the room of the rows given. Text isn't tested again: of a block that changed since it was opened, bytes
+ * that aren't text any more are handed out as they are. */
+idz_given idz_read(idz_reader reader, const uint8_t *block, size_t block_len, size_t skip, size_t size, int64_t *values,
+                   size_t values_len, uint8_t *flags, size_t flags_len, uint32_t *ends, size_t ends_len, uint8_t *bytes,
+                   size_t bytes_len);
 
 /* The rows that are left, from the record alone. Refuses 9. */
 idz_left idz_remaining(idz_reader reader);

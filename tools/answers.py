@@ -3,7 +3,7 @@
     python3 tools/answers.py [SEED FOLDER]
 
 The answers are those of tools/model.py; crates/try_reading/src/main.rt says what a command is. With no arguments the files are
-always the same; with another seed the random commands are others, and the two files go to the folder. Where document 01 says
+always the same; with another seed the random commands are others, and the two files go to the folder. Where the documents say
 which number a call answers, the call expects it here, and a model that answers another stops the run.
 
 Not tried, for want of room: a block above 16,777,216 bytes, a dictionary of 1,048,576 key runs, and an answer above
@@ -19,6 +19,7 @@ from model import BLOB, BY_ENDS, CHAR, F64, FIXED, KINDS, STRING, Reader, Refuse
 
 SEED = 1
 ROOM = 2300000  # bytes of the program's room for a block
+MOST_COMMANDS = 80000  # bytes of its room for commands
 MOST = 2**64 - 1
 MOST_ROWS = 2**48 - 1
 ITEMS = 2**20
@@ -110,45 +111,34 @@ class Script:
     def again(self):
         self.open(*self.opened)
 
-    def skip(self, n, expect=None):
-        self.command(2, n)
-        refusal = 0
-        try:
-            after = model.skip(self.reader, self.lent(), n)
-            self.compare_ways(n, after)
-            self.reader = after
-        except Refused as e:
-            refusal = e.number
-        assert expect in (None, refusal), (expect, refusal)
-        self.answer("skip", refusal, *self.reader.fields())
-        self.count("skip", refusal, self.reader.encoding)
-
-    def compare_ways(self, n, after):
-        """The model's two ways through the runs agree."""
-        if n <= 4096:
-            assert model.run_by_run(self.reader, self.lent(), n)[1].fields() == after.fields()
-
-    def batch(self, size, values, flags, ends, data, expect=None):
-        self.command(3, size, values, flags, ends, data)
+    def read(self, skip, size, values=0, flags=0, ends=0, data=0, expect=None):
+        self.command(2, skip, size, values, flags, ends, data)
         assert max(values, flags, ends) <= 64 and data <= 255
         areas = [[AREA] * n for n in (values, flags, ends, data)]
         rows, total, refusal = 0, 0, 0
         try:
-            rows, total, after = model.batch(self.reader, self.lent(), size, *areas)
-            self.compare_ways(rows, after)
+            rows, total, after = model.read(self.reader, self.lent(), skip, size, *areas)
+            self.compare_ways(skip + rows, after)
             self.reader = after
         except Refused as e:
             refusal = e.number
             assert all(x == AREA for area in areas for x in area)
         assert [len(a) for a in areas] == [values, flags, ends, data]
         assert expect in (None, refusal), (expect, refusal)
-        self.answer("batch", refusal, rows, total, *self.reader.fields())
+        self.answer("read", refusal, rows, total, *self.reader.fields())
         for word, area in zip(("values", "flags", "ends", "bytes"), areas):
             self.answer(" " + word, *(x % 2**64 for x in area))
-        self.count("batch", refusal, self.reader.encoding)
+        what = ("both" if size else "skip") if skip else "give" if size else "none"
+        self.count(what, refusal, self.reader.encoding)
+        return refusal
+
+    def compare_ways(self, n, after):
+        """The model's two ways through the runs agree."""
+        if n <= 4096:
+            assert model.run_by_run(self.reader, self.lent(), n)[1].fields() == after.fields()
 
     def remaining(self, expect=None):
-        self.command(4)
+        self.command(3)
         left, refusal = 0, 0
         try:
             left = model.remaining(self.reader)
@@ -160,20 +150,20 @@ class Script:
 
     def set(self, field, value):
         place = Reader.FIELDS.index(field)
-        self.command(5, place, value)
+        self.command(4, place, value)
         self.reader = self.reader.copy(**{field: value})
         self.answer("set")
         self.calls["set"] += 1
 
     def change(self, place, byte):
-        self.command(6, place)
+        self.command(5, place)
         self.commands.append(byte)
         self.room[place] = byte
         self.answer("change")
         self.calls["change"] += 1
 
     def lend(self, length):
-        self.command(7, length)
+        self.command(6, length)
         self.len = length
         self.answer("lend")
         self.calls["lend"] += 1
@@ -184,36 +174,44 @@ class Script:
         r = self.reader
         return min(r.rows - r.place, MOST - 1) if r.place <= r.rows else 0
 
-    def need(self, size):
-        """The rows and bytes that a batch would give; None where it is refused, or gives more than can be lent."""
-        if size and min(size, self.left()) > 64:
+    def need(self, skip, size):
+        """The rows and bytes that a read would give; None where it is refused, or gives more than can be lent."""
+        if skip <= self.left() and min(size, self.left() - skip) > 64:
             return None
         try:
-            return model.batch(self.reader, self.lent(), size, *([AREA] * 70 for _ in range(3)), [AREA] * 300)[:2]
+            return model.read(self.reader, self.lent(), skip, size, *([AREA] * 70 for _ in range(3)), [AREA] * 300)[:2]
         except Refused:
             return None
 
-    def rooms(self, size):
-        """The lengths of areas that just hold a batch, those that its kind doesn't use 0."""
-        rows, total = self.need(size) or (2, 5)
+    def rooms(self, skip, size):
+        """The lengths of areas that just hold what a read gives, those that its kind doesn't use 0."""
+        rows, total = self.need(skip, size) or (2, 5)
         return [rows, rows, 0, 0] if self.reader.kind in FIXED else [0, rows, rows, total]
 
-    def give(self, size, expect=None):
-        """A batch into areas that just hold it."""
-        self.batch(size, *self.rooms(size), expect=expect)
+    def skip(self, n, expect=None):
+        """A read that gives no rows."""
+        self.read(n, 0, expect=expect)
 
-    def give_short(self, size):
-        """The batch refused for each area that can be one short, and then given with one to spare."""
-        rooms = self.rooms(size)
+    def nothing(self):
+        """A read that asks for nothing, into areas that would hold a row."""
+        self.read(0, 0, 1, 1, 1, 1, expect=6)
+
+    def give(self, size, skip=0, expect=None):
+        """A read into areas that just hold what it gives."""
+        self.read(skip, size, *self.rooms(skip, size), expect=expect)
+
+    def give_short(self, size, skip=0):
+        """The read refused for each area that can be one short, and then given with one to spare."""
+        rooms = self.rooms(skip, size)
         for i, n in enumerate(rooms):
             if n:
-                self.batch(size, *(m - (i == j) for j, m in enumerate(rooms)), expect=4)
-        self.batch(size, *(min(n + 1, (64, 64, 64, 255)[i]) for i, n in enumerate(rooms)), expect=0)
+                self.read(skip, size, *(m - (i == j) for j, m in enumerate(rooms)), expect=4)
+        self.read(skip, size, *(min(n + 1, (64, 64, 64, 255)[i]) for i, n in enumerate(rooms)), expect=0)
 
-    def give_loose(self, size):
-        """A batch into areas most of which hold it."""
-        rooms = [n + self.random.choice((0, 0, 0, 0, 1, 2, -1)) for n in self.rooms(size)]
-        self.batch(size, *(min(max(n, 0), (64, 64, 64, 255)[i]) for i, n in enumerate(rooms)))
+    def give_loose(self, size, skip=0):
+        """A read into areas most of which hold what it gives."""
+        rooms = [n + self.random.choice((0, 0, 0, 0, 1, 2, -1)) for n in self.rooms(skip, size)]
+        self.read(skip, size, *(min(max(n, 0), (64, 64, 64, 255)[i]) for i, n in enumerate(rooms)))
 
     def wander(self, steps):
         """Random calls."""
@@ -221,10 +219,11 @@ class Script:
         for _ in range(steps):
             left = self.left()
             what = self.random.random()
-            if what < .3:
-                self.skip(pick((0, 1, 1, 2, min(left, 3), left, left + 1, MOST)))
+            if what < .2:
+                self.skip(pick((1, 1, 2, min(left, 3), left, left + 1, MOST)))
             elif what < .9:
-                self.give_loose(pick((1, 1, 2, 2, 3, min(left, 4), left, left + 1, MOST, 0)))
+                size = pick((1, 1, 2, 2, 3, min(left, 4), left, left + 1, MOST, 0))
+                self.give_loose(size, pick((0, 0, 0, 1, 1, 2, min(left, 3), left, left + 1)))
             else:
                 self.remaining()
 
@@ -329,16 +328,14 @@ def all_pairs(s):
                 if turn == 0:
                     s.remaining(expect=0)
                     s.give(MOST, expect=0)
-                    s.skip(0, expect=0)
                     s.skip(1, expect=7)
                     s.give(1, expect=0)
                     s.again()
-                    s.skip(s.random.randint(1, 2))
-                    s.give_short(2)
+                    s.give_short(2, skip=s.random.randint(1, 2))
                 else:
-                    s.wander(3)
-                    s.skip(s.left())
                     s.wander(2)
+                    s.give(1, skip=s.left(), expect=0)
+                    s.wander(1)
 
 
 def wide_chars(s):
@@ -346,9 +343,9 @@ def wide_chars(s):
         rows = [b"q" * 253 + "\u07ff".encode(), b"q" * 254, None, b"", b"\0" + b"q" * 254]
         s.load(model.build(CHAR, encoding, 255, rows))
         s.open(CHAR, encoding, 255, 5, expect=0)
-        s.batch(1, 0, 1, 1, 254, expect=4)
-        s.batch(1, 0, 1, 1, 255, expect=0)
-        s.batch(4, 1, 4, 4, 254, expect=0)
+        s.read(0, 1, 0, 1, 1, 254, expect=4)
+        s.read(0, 1, 0, 1, 1, 255, expect=0)
+        s.read(0, 4, 1, 4, 4, 254, expect=0)
 
 
 def no_rows(s):
@@ -359,26 +356,24 @@ def no_rows(s):
             s.load(model.build(kind, encoding, width, []))
             s.open(kind, encoding, width, 0, expect=0)
             s.remaining(expect=0)
-            s.skip(0, expect=0)
+            s.nothing()
             s.skip(1, expect=7)
-            s.batch(0, 0, 0, 0, 0, expect=6)
-            s.batch(1, 0, 0, 0, 0, expect=0)
-            s.batch(2, 1, 1, 1, 1, expect=0)
+            s.read(0, 1, expect=0)
+            s.read(0, 2, 1, 1, 1, 1, expect=0)
             s.open(kind, encoding, width, 1, expect=(10 if kind in BY_ENDS else 11, 11, 16, 16, 16)[encoding])
     s.load(dictionary(b"", 2, blobs(b"a", b"b")))
     s.open(BLOB, 4, 0, 0, expect=0)
-    s.batch(1, 0, 0, 0, 0, expect=0)
+    s.read(0, 1, expect=0)
 
 
 def samples(s):
     """The document's samples A to E, I and J; F, G and H are among the other cases."""
     s.load(bytes.fromhex("0200000002000000030107000000FFFFFFFF"))
-    s.open(I32, 2, 0, 4, expect=0)
-    s.skip(2, expect=0)
-    s.give(1, expect=0)
-    s.give(5, expect=0)
-    s.give(5, expect=0)
-    s.skip(1, expect=7)
+    for calls in ([(2, 0), (0, 1)], [(2, 1)]):
+        s.open(I32, 2, 0, 4, expect=0)
+        for skip, size in [*calls, (0, 5), (0, 5)]:
+            s.give(size, skip, expect=0)
+        s.skip(1, expect=7)
     b = bytes.fromhex("000000000000001C0000000204000000040000000101010101000080000000800100008002000080"
                       "0200000003000000616263")
     assert b == model.build(BLOB, 4, 0, [b"ab", None, b"ab", b"c"])
@@ -410,17 +405,15 @@ def rates(s):
     """Floats by their bits: the two zeros are two rows, a null is neither, and NaNs are equal exactly if their bits are."""
     s.load(bytes.fromhex("02000000 02000000 02 01 000000000000F03F 0000000000000080"))
     s.open(F64, 2, 0, 3, expect=0)
-    s.batch(MOST, 3, 3, 0, 0, expect=0)
+    s.read(0, MOST, 3, 3, expect=0)
     for encoding in range(5):
         s.load(model.build(F64, encoding, 0, RATES))
         s.open(F64, encoding, 0, len(RATES), expect=0)
         assert s.reader.runs == (0, 0, 10, 10, 10)[encoding] and s.reader.entries == (0, 0, 0, 0, 7)[encoding]
         s.give(MOST, expect=0)
         s.again()
-        s.skip(1, expect=0)
-        s.give(1, expect=0)
-        s.skip(5, expect=0)
-        s.give_short(2)
+        s.give(1, skip=1, expect=0)
+        s.give_short(2, skip=5)
 
 
 GOOD = [bytes.fromhex(x) for x in (
@@ -520,9 +513,8 @@ def texts(s):
             block = model.build(kind, encoding, width, rows)
             s.load(block)
             s.open(kind, encoding, width, 4, expect=0)
-            s.skip(1, expect=0)
             s.change(block.index(b"\xc3"), 0xff)
-            s.give(MOST, expect=0)
+            s.give(MOST, skip=1, expect=0)
             s.remaining(expect=0)
             s.open(kind, encoding, width, 4, expect=17)
 
@@ -688,7 +680,7 @@ def cuts(s):
             s.lend(length)
             if kind in BY_ENDS:
                 s.set("len", length)
-                s.batch(MOST, 0, 3, 3, 4)
+                s.read(0, MOST, 0, 3, 3, 4)
                 s.again()
                 assert s.reader is NO_READER
                 s.lend(len(block))
@@ -722,13 +714,11 @@ def spellings(s):
             s.load(of_counts(encoding, "".join(counts), len(counts))[0])
             s.open(I16, encoding, 0, sum(numbers), expect=0)
             for n in numbers:
-                s.skip(n - 1, expect=0)
-                s.give(min(2, s.left()), expect=0)
+                s.give(2, skip=n - 1, expect=0)
                 s.remaining(expect=0)
                 if s.left():
                     s.again()
                     s.skip(sum(numbers[:numbers.index(n) + 1]), expect=0)
-            s.skip(s.left())
             s.give(1, expect=0)
 
 
@@ -743,11 +733,11 @@ def longer_than_needed(s):
             for run in range(3):
                 last = start + (run + 1) * size - 1
                 s.open(I16, encoding, 0, 3 * count, expect=0)
-                s.skip(run * count, expect=0)
                 s.change(last, 0)
-                s.skip(0, expect=0)
+                s.give(1, skip=run * count, expect=9)
+                if run:
+                    s.skip(run * count, expect=0)
                 s.remaining(expect=0)
-                s.give(1, expect=9)
                 s.skip(1, expect=9)
                 s.open(I16, encoding, 0, 3 * count, expect=12)
                 s.change(last, 1)
@@ -787,8 +777,7 @@ def sound_all_the_same(s):
     # runs that could be one, equal entries
     s.load(runs("010202", b"aaa"))
     s.open(CHAR, 2, 1, 5, expect=0)
-    s.skip(2, expect=0)
-    s.give(5, expect=0)
+    s.give(5, skip=2, expect=0)
     s.load(dictionary(runs("0101", keys(1, 2)), 2, b"aa"))
     s.open(CHAR, 4, 1, 2, expect=0)
     s.give(2, expect=0)
@@ -801,13 +790,11 @@ def run_two(s):
         s.load(model.build(BLOB, encoding, 0, rows))
         s.open(BLOB, encoding, 0, len(rows), expect=0)
         for n in (3, 4, 5, 6, 9):
-            s.skip(n, expect=0)
-            s.give(1, expect=0)
+            s.give(1, skip=n, expect=0)
             s.give_short(MOST)
             s.again()
         s.skip(2, expect=0)
-        s.skip(3, expect=0)
-        s.give(2, expect=0)
+        s.give(2, skip=3, expect=0)
 
 
 def many_bytes(s):
@@ -817,22 +804,23 @@ def many_bytes(s):
             inner = blobs(b"ab")
             s.load(runs(text, inner, 1) if encoding == 2 else dictionary(runs(text, keys(1), 1), 1, inner))
             s.open(BLOB, encoding, 0, rows, expect=0)
-            s.batch(MOST, 0, 64, 64, 255, expect=4)
-            s.batch(64, 0, 64, 64, 128, expect=0)
-            s.batch(64, 0, 64, 64, 127, expect=4)
+            s.read(0, MOST, 0, 64, 64, 255, expect=4)
+            s.read(0, 64, 0, 64, 64, 128, expect=0)
+            s.read(0, 64, 0, 64, 64, 127, expect=4)
+            s.read(s.left() - 64, MOST, 0, 64, 64, 128, expect=0)  # bytes of rows passed over don't count
     # items of no bytes: only the ends and flags are too short
     s.load(runs("FFFFFFFF0F", blobs(b""), 1))
     s.open(BLOB, 2, 0, 2**32 - 1, expect=0)
-    s.batch(65, 0, 64, 64, 0, expect=4)
-    s.batch(64, 0, 64, 64, 0, expect=0)
+    s.read(0, 65, 0, 64, 64, 0, expect=4)
+    s.read(0, 64, 0, 64, 64, 0, expect=0)
     # 32,800 runs of 4,294,967,295 rows of 131,073 bytes: more than 2^64 in all
     s.load([(1, dictionary(b"", 1, b"", 32800 * 9 + 8)), (1, le4(32800) + le4(32800 * 5)), (32800, b"\xff\xff\xff\xff\x0f"),
             (32800, keys(1)), (1, le4(131073)), (131073, b"q")])
     s.open(BLOB, 4, 0, 32800 * (2**32 - 1), expect=0)
-    s.batch(MOST, 0, 64, 64, 255, expect=4)
-    s.batch(1, 0, 1, 1, 255, expect=4)
+    s.read(0, MOST, 0, 64, 64, 255, expect=4)
+    s.read(0, 1, 0, 1, 1, 255, expect=4)
+    s.read(s.left() - 1, 1, 0, 1, 1, 255, expect=4)
     s.skip(s.left() - 1, expect=0)
-    s.batch(1, 0, 1, 1, 255, expect=4)
 
 
 def most_rows(s):
@@ -852,24 +840,23 @@ def most_rows(s):
         s.open(0, encoding, 0, MOST_ROWS, expect=0)
         s.remaining(expect=0)
         s.skip(MOST_ROWS + 1, expect=7)
-        s.batch(MOST, 64, 64, 0, 0, expect=4)
-        s.skip(MOST_ROWS, expect=0)
-        s.give(1, expect=0)
+        s.read(MOST, MOST, 64, 64, expect=7)
+        s.read(0, MOST, 64, 64, expect=4)
+        s.give(MOST, skip=MOST_ROWS, expect=0)
         s.skip(1, expect=7)
         s.again()
-        s.skip(MOST_ROWS - 65535 - 2, expect=0)
-        s.give_short(4)
-        s.skip(65535 - 2 - 3, expect=0)
-        s.give(2, expect=0)
+        s.give_short(4, skip=MOST_ROWS - 65535 - 2)
+        s.give(2, skip=65535 - 2 - 3, expect=0)
         s.give(MOST, expect=0)
         # a count on the way is damaged
         s.again()
         at = (20 if encoding == 4 else 8) + 5 * 40000
         s.change(at + 4, 0x10)
+        s.give(1, skip=40000 * (2**32 - 1), expect=9)
+        s.skip(MOST_ROWS, expect=9)
+        s.skip(MOST_ROWS + 1, expect=7)
         s.skip(40000 * (2**32 - 1), expect=0)
-        s.give(1, expect=9)
         s.skip(1, expect=9)
-        s.skip(s.left() + 1, expect=7)
         s.again()  # refused
         s.change(at + 4, 0x0f)
 
@@ -903,14 +890,13 @@ def most_items(s):
     """1,048,576 rows and runs, and one more, in the block and in the record alone."""
     def ends_well(encoding, rows):
         s.open(0, encoding, 0, rows, expect=0)
-        s.skip(ITEMS - 2, expect=0)
-        s.give(MOST, expect=0)
+        s.give(MOST, skip=ITEMS - 2, expect=0)
 
     def one_more(**fields):
         for field, value in fields.items():
             s.set(field, value)
         s.remaining(expect=9)
-        s.skip(0, expect=9)
+        s.skip(MOST, expect=9)
         s.give(1, expect=9)
 
     s.load([(ITEMS - 1, b"\0"), (1, b"\1")])
@@ -945,9 +931,9 @@ def bases():
 
 def small_calls(s):
     s.remaining()
-    s.skip(1)
-    kind = s.reader.kind
-    s.batch(2, 2, 2, 2, 4) if kind in (CHAR, *BY_ENDS) else s.batch(2, 2, 2, 0, 0)
+    rooms = (2, 2, 2, 4) if s.reader.kind in (CHAR, *BY_ENDS) else (2, 2, 0, 0)
+    if s.read(1, 2, *rooms) and not model.contradicts(s.reader):
+        s.skip(1)
 
 
 def values_of(field, r):
@@ -986,17 +972,18 @@ def forged(s):
         middle = s.reader
         for field in Reader.FIELDS:
             values = values_of(field, middle)
+            every = base % 3 == encoding % 3
             if not looked_at(field, encoding):
                 values = values[-1:]
-            elif base % 3 != encoding % 3:
+            elif not every:
                 values = values[::6]
             for value in values:
                 s.set(field, value)
-                if s.reader.kind == 12:
-                    s.batch(0, 0, 0, 0, 0, expect=6)
+                if every and value == values[-1]:
+                    s.nothing()
                 small_calls(s)
                 changed = [f for f in Reader.FIELDS if getattr(s.reader, f) != getattr(middle, f)]
-                if len(changed) < 3:
+                if len(changed) < 5:
                     for f in changed:
                         s.set(f, getattr(middle, f))
                 else:
@@ -1036,13 +1023,14 @@ def forged_lengths(s):
         for more in (1, 4, -1):
             s.lend(len(block) + more)
             s.remaining(expect=0)
-            s.skip(0, expect=9)
-            s.skip(MOST, expect=9)
-            s.batch(1, 1, 1, 1, 4, expect=9)
-            s.batch(0, 1, 1, 1, 4, expect=6)
+            if more == 1:
+                s.nothing()
+            s.read(MOST, 1, 1, 1, 1, 4, expect=9)
+            s.skip(1, expect=9)
+            s.read(0, 1, 1, 1, 1, 4, expect=9)
             s.set("len", len(block) + more)
             s.remaining()
-            s.batch(3, 3, 3, 3, 6)
+            s.read(0, 3, 3, 3, 3, 6)
             s.again()  # refused
             s.lend(len(block))
             s.again()
@@ -1057,7 +1045,7 @@ def forged_by_chance(s):
         block = model.build(kind, encoding, width, rows)
         s.load(block)
         s.open(kind, encoding, width, len(rows), expect=0)
-        s.skip(pick((0, 1, 3, 5, 8)))
+        s.skip(pick((1, 2, 3, 5, 8)))
         for _ in range(pick((1, 2, 2, 3))):
             field = pick(Reader.FIELDS[1:] if chance() < .9 else Reader.FIELDS)
             s.set(field, pick(values_of(field, s.reader)))
@@ -1067,7 +1055,7 @@ def forged_by_chance(s):
 
 
 def damaged(s):
-    """Memory changed after opening, for each rule that a batch or a skip looks at again."""
+    """Memory changed after opening, for each rule that a read looks at again."""
     rows = [b"ab"] * 3 + [None] * 3 + [b"c"] * 3
     for encoding in (2, 3, 4):
         kind = BY_ENDS[encoding % 2]
@@ -1080,15 +1068,14 @@ def damaged(s):
             s.skip(2)
             s.change(counts + at, byte)
             s.remaining(expect=0)
-            s.skip(0, expect=0)
             s.give(1)
+            s.give(1, skip=1)
             s.skip(1)
             s.give(MOST)
-            s.skip(s.left())
             s.change(counts + at, 3)
         # a run that is used up is left, whatever its item or key is
         s.open(kind, encoding, 0, 9, expect=0)
-        s.skip(5)
+        s.skip(5, expect=0)
         s.change(counts + 1, 2)
         s.change(counts + 3 + (4 if encoding == 4 else 0), 0x7f)
         s.give(1, expect=0)
@@ -1111,17 +1098,15 @@ def damaged(s):
                 kept = s.room[first + 4 * item]
                 s.open(kind, encoding, 0, 4, expect=0)
                 s.change(first + 4 * item, byte)
-                s.batch(1, 0, 1, 1, 6)
+                s.read(0, 1, 0, 1, 1, 6)
                 s.give(1)
                 s.give(4)
-                s.skip(2)
-                s.batch(4, 0, 4, 4, 12)
+                s.read(2, 4, 0, 4, 4, 12)
                 s.change(first + 4 * item, kept)
         s.open(kind, encoding, 0, 4, expect=0)
         s.change(first + 3, 1)
         s.give(1)
-        s.skip(1)
-        s.give(MOST)
+        s.give(MOST, skip=1)
     # keys: of two entries, the third, null and others
     texts = [b"ab", None, b"c", b"c"]
     for kind, width, rows in ((STRING, 0, texts), (CHAR, 2, texts), (I16, 0, [5, None, 6, 6])):
@@ -1131,9 +1116,7 @@ def damaged(s):
             kept = s.room[at]
             s.change(at, byte)
             s.give(1, expect=9 if (at, byte) in ((23, 3), (23, 9), (26, 0)) else 0)
-            s.skip(1)
-            s.give(MOST)
-            s.skip(s.left())
+            s.give(MOST, skip=1)
             s.change(at, kept)
     # flags
     for kind, width, rows in ((I16, 0, NUMBERS), (CHAR, 2, TEXTS), (BLOB, 0, TEXTS)):
@@ -1144,35 +1127,97 @@ def damaged(s):
                 s.open(kind, encoding, width, 8)
                 s.change(len(block) - 5, byte)
                 s.change(len(block) - 4, 9)  # the bitmap's length isn't read again
-                s.batch(MOST, 8, 8, 8, 16)
+                s.read(0, MOST, 8, 8, 8, 16)
                 s.change(len(block) - 4, 1)
 
 
 def nine_first(s):
-    """A fault of a row that a batch gives comes before an area that is too short, and one of a later row isn't met."""
+    """A fault of a row that a read gives comes before an area that is too short, and one of a later row isn't met."""
     texts = [b"a", b"a", b"b", b"b"]
     for kind, width, rows in ((I16, 0, [5, 5, 6, 6]), (CHAR, 2, texts), (BLOB, 0, texts)):
         for encoding in (2, 3, 4):
             second_count, second_key = (21, 26) if encoding == 4 else (9, None)
             s.load(model.build(kind, encoding, width, rows))
             s.open(kind, encoding, width, 4, expect=0)
-            s.batch(4, 0, 0, 0, 0, expect=4)
+            s.read(0, 4, expect=4)
             s.change(second_count, 0)
-            s.batch(4, 0, 0, 0, 0, expect=9)
-            s.batch(2, 0, 0, 0, 0, expect=4)
+            s.read(0, 4, expect=9)
+            s.read(1, 1, expect=4)
             s.give(2, expect=0)
             if second_key:
                 s.change(second_count, 2)
                 s.change(second_key, 3)
-                s.batch(1, 0, 0, 0, 0, expect=9)
+                s.read(0, 1, expect=9)
     for encoding in (0, 1):
         kind = BY_ENDS[encoding]
         s.load(model.build(kind, encoding, 0, [b"ab", b"c", b"d"]))
         s.open(kind, encoding, 0, 3, expect=0)
         s.change(8, 2)
-        s.batch(3, 0, 0, 0, 0, expect=9)
-        s.batch(2, 0, 0, 0, 0, expect=4)
+        s.read(0, 3, expect=9)
+        s.read(1, 1, expect=4)
         s.give(2, expect=0)
+
+
+def skips_and_sizes(s):
+    """Rows to pass over and rows to give: none, one, some, as many as there are, more, and the most of all; from the start, and past it."""
+    for encoding in range(5):
+        kind, width, rows = ((I16, 0, NUMBERS), (CHAR, 2, TEXTS), (BY_ENDS[encoding % 2], 0, TEXTS))[encoding % 3]
+        s.load(model.build(kind, encoding, width, rows))
+        s.open(kind, encoding, width, 8, expect=0)
+        for first, left in ((0, 8), (3, 5)):
+            for skip in (0, 1, 4, left, left + 1, MOST):
+                for size in (0, 1, 3, left, MOST) if first == 0 else (0, 2):
+                    if s.reader.place != first:
+                        s.again()
+                    if s.reader.place != first:
+                        s.skip(first, expect=0)
+                    number = 6 if skip == size == 0 else 7 if skip > left else 0
+                    if first and size == 0:
+                        s.read(skip, size, 2, 2, 2, 4, expect=number)  # room that isn't needed
+                    else:
+                        s.give(size, skip, expect=number)
+                    assert s.reader.place == first + (0 if number else skip + min(size, left - skip))
+
+
+def whole_or_not_at_all(s):
+    """A fault before, in and behind the rows that are passed over and those that are given. After a refusal the next call stands where
+    that one stood, so it shows a reader that was moved half."""
+    texts = [b"ab"] * 3 + [b"c"] * 3 + [b"de"] * 3
+    for kind, width, rows in ((I16, 0, [5] * 3 + [6] * 3 + [7] * 3), (CHAR, 2, texts), (STRING, 0, texts)):
+        for encoding in (2, 3, 4):
+            counts = 20 if encoding == 4 else 8
+            s.load(model.build(kind, encoding, width, rows))
+            # the first count is bad: a reader behind it doesn't look at it any more, and a new one isn't to be had
+            s.open(kind, encoding, width, 9, expect=0)
+            s.skip(3, expect=0)
+            s.change(counts, 0)
+            s.give(2, skip=2, expect=0)
+            s.again()  # refused
+            s.change(counts, 3)
+            # the second: the first run alone can be passed over and given
+            s.again()
+            s.change(counts + 1, 0)
+            for skip, size, number in ((10, 1, 7), (9, 0, 9), (3, 1, 9), (2, 2, 9), (4, 0, 9), (2, 1, 0), (1, 0, 9), (0, 1, 9)):
+                s.give(size, skip, expect=number)
+            s.change(counts + 1, 3)
+            # the third
+            s.again()
+            s.change(counts + 2, 0x80)
+            for skip, size, number in ((6, 1, 9), (7, 0, 9), (4, 3, 9), (4, 2, 0), (1, 1, 9), (4, 1, 7)):
+                s.give(size, skip, expect=number)
+            s.change(counts + 2, 3)
+    # an end that falls, one past the data, a key that names no entry, of the second row: of rows given alone
+    for kind, encoding, at, byte, third in ((BLOB, 0, 4, 1, 0), (STRING, 0, 4, 9, 9), (STRING, 1, 4, 1, 0), (BLOB, 1, 4, 9, 9),
+                                            (BLOB, 2, 15, 1, 0), (STRING, 2, 15, 9, 9), (STRING, 3, 15, 1, 0), (BLOB, 3, 15, 9, 9),
+                                            (I16, 4, 27, 4, 0), (BLOB, 4, 27, 9, 0)):
+        s.load(model.build(kind, encoding, 0, [5, 6, 7] if kind == I16 else [b"ab", b"c", b"de"]))
+        s.open(kind, encoding, 0, 3, expect=0)
+        s.change(at, byte)
+        for skip, size, number in ((0, 2, 9), (1, 1, 9), (1, 2, 9), (4, 1, 7), (2, 1, third)):
+            s.give(size, skip, expect=number)
+        if third:
+            s.give(1, expect=0)
+            s.skip(2, expect=0)
 
 
 def damaged_by_chance(s):
@@ -1201,8 +1246,8 @@ def damaged_by_chance(s):
 
 
 SECTIONS = (samples, all_pairs, wide_chars, no_rows, rates, texts, refusals, cuts, spellings, longer_than_needed, sound_all_the_same, run_two,
-            many_bytes, most_rows, most_entries, most_items, forged, forged_heads, forged_lengths, damaged, nine_first, forged_by_chance,
-            damaged_by_chance)
+            many_bytes, most_rows, most_entries, most_items, forged, forged_heads, forged_lengths, damaged, nine_first,
+            skips_and_sizes, whole_or_not_at_all, forged_by_chance, damaged_by_chance)
 
 
 def main():
@@ -1215,7 +1260,7 @@ def main():
         section(s)
         after = len(s.commands), len(s.answers), s.blocks
         print("%s: %d bytes, %d lines, %d blocks" % (section.__name__, *(a - b for a, b in zip(after, before))))
-    assert len(s.commands) <= 65536
+    assert len(s.commands) <= MOST_COMMANDS
     (folder / "stdin").write_bytes(s.commands)
     (folder / "stdout").write_text("\n".join(s.answers) + "\n")
     print("%d bytes: %d blocks, %s" % (len(s.commands), s.blocks, ", ".join("%d %s" % (n, c) for c, n in s.calls.items())))

@@ -68,14 +68,14 @@ def listing(data):
 
 
 def rows_listed(reader, block):
-    """The lines of a reader's rows, a batch for each, up to one that is refused, and its number or 0."""
+    """The lines of a reader's rows, a read for each, up to one that is refused, and its number or 0."""
     lines = []
     try:
         rows = model.remaining(reader)
         lines.append("rows %d" % rows)
         for i in range(min(rows, 1000)):
             values, flags, ends, data = [0], [0], [0], [0] * 65536
-            _, total, after = model.batch(reader, block, 1, values, flags, ends, data)
+            _, total, after = model.read(reader, block, 0, 1, values, flags, ends, data)
             row = None if not flags[0] else values[0] if reader.kind in FIXED else bytes(data[:total])
             lines.append("%d %s" % (i, row_text(reader.kind, row)))
             reader = after
@@ -93,7 +93,7 @@ def changed_listing(data, place, passed, value):
         kind, encoding, width, zero, rows = fields(data[:8])
         reader = model.open_block(kind, encoding, width, rows, bytes(block))
         try:
-            reader = model.skip(reader, bytes(block), passed)
+            reader = model.read(reader, bytes(block), passed, 0, [], [], [], [])[2]
         except Refused:
             pass
     except Refused:
@@ -283,7 +283,7 @@ def changed(s):
     s.change(run, NOWHERE, 0, 0, ["rows 4", "0 7", "1 7", "2 7", "3 -1", "end"])
     s.change(run, NOWHERE, 3, 0, ["rows 1", "0 -1", "end"])
     s.change(run, NOWHERE, 4, 0, ["rows 0", "end"])
-    s.change(run, NOWHERE, 5, 0, ["rows 4", "0 7", "1 7", "2 7", "3 -1", "end"])  # a skip that is refused
+    s.change(run, NOWHERE, 5, 0, ["rows 4", "0 7", "1 7", "2 7", "3 -1", "end"])  # more rows than there are are passed over: refused
     s.change(run, 9, 0, 0, ["rows 4", "0 7", "1 7", "2 7", "refused 9"])  # the second count is 0
     s.change(run, 8, 0, 0, ["rows 4", "refused 9"])  # the first
     s.change(run, 8, 2, 1, ["rows 2", "refused 9"])  # fewer rows than were passed over

@@ -1,4 +1,4 @@
-"""A second reading of document 01, in Python, made apart from the definitions under crates/*/specs.
+"""A second reading of documents 01 and 02, in Python, made apart from the definitions under crates/*/specs.
 
 It builds blocks, opens them and reads them row by row, for every kind and encoding. tools/answers.py makes the stored
 answers of the programs in the gate with it.
@@ -406,28 +406,25 @@ def row_at(r, b, i):
     return row if inner[len(items) + i // 8] >> i % 8 & 1 else None
 
 
-def skip(r, b, n):
-    if contradicts(r) or len(b) != r.len:
-        raise Refused(9)
-    if n > r.rows - r.place:
-        raise Refused(7)
-    return advance(r, b, n)[1]
-
-
 def remaining(r):
     if contradicts(r):
         raise Refused(9)
     return r.rows - r.place
 
 
-def batch(r, b, size, values, flags, ends, data):
-    """Rows and bytes given and the reader after them; the areas (lists) are changed in place."""
-    if size == 0:
+def read(r, b, skip, size, values, flags, ends, data):
+    """Rows are passed over, and up to so many of those behind them given. What comes back is the rows and bytes given and the reader
+    after them; the areas (lists) are changed in place. A refusal is raised before anything is changed."""
+    if skip == 0 and size == 0:
         raise Refused(6)
     if contradicts(r) or len(b) != r.len:
         raise Refused(9)
-    n = min(size, r.rows - r.place)
-    pieces, after = advance(r, b, n)
+    left = r.rows - r.place
+    if skip > left:
+        raise Refused(7)
+    n = min(size, left - skip)
+    behind = advance(r, b, skip)[1]
+    pieces, after = advance(behind, b, n)
     found = [(row_at(r, b, i), count) for i, count in pieces]
     total = 0 if r.kind in FIXED else sum(len(x or b"") * count for x, count in found)
     if n > len(flags) or total > 2**32 - 1:

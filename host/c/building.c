@@ -86,7 +86,7 @@ static void floats(void) {
     idz_reader reader = idz_open(IDZ_F64, IDZ_RUN_LENGTH, 0, 4, out, finished.len).reader;
     int64_t values[4];
     uint8_t given_flags[4];
-    idz_given given = idz_batch(reader, out, finished.len, 4, values, 4, given_flags, 4, NULL, 0, NULL, 0);
+    idz_given given = idz_read(reader, out, finished.len, 0, 4, values, 4, given_flags, 4, NULL, 0, NULL, 0);
     expect(given.number == IDZ_DONE && given.rows == 4 && memcmp(values, rows, sizeof rows) == 0, "and their bits come back");
     expect(idz_create(IDZ_F64, IDZ_PLAIN, 8, 0).number == IDZ_COLUMN, "f64 of a width is 1");
 }

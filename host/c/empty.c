@@ -68,8 +68,8 @@ static idz_finished finish(idz_builder builder, unsigned missing, void *none) {
                       LENT(6, out));
 }
 
-static idz_given batch(idz_reader reader, const uint8_t *block, size_t len, size_t size, unsigned missing, void *none) {
-    return idz_batch(reader, block, len, size, LENT(0, values), LENT(1, given_flags), LENT(2, given_ends), LENT(3, given_bytes));
+static idz_given read_rows(idz_reader reader, const uint8_t *block, size_t len, size_t skip, size_t size, unsigned missing, void *none) {
+    return idz_read(reader, block, len, skip, size, LENT(0, values), LENT(1, given_flags), LENT(2, given_ends), LENT(3, given_bytes));
 }
 
 enum { ALL_OF_BUILDING = 127, ALL_OF_READING = 15 };
@@ -87,10 +87,13 @@ static void nothing(int kind, int encoding, size_t width) {
     idz_opening opening = idz_open((size_t)kind, (size_t)encoding, width, 0, NULL, 0);
     expect(opening.number == opens[encoding], "no bytes opened", kind, encoding);
     uint8_t due = opens[encoding] == IDZ_DONE ? IDZ_DONE : IDZ_DISAGREE;
-    idz_given given = batch(opening.reader, NULL, 0, 1, ALL_OF_READING, NULL);
-    expect(given.number == due && given.rows == 0 && given.bytes == 0, "a batch of no bytes into no memory", kind, encoding);
-    expect(batch(opening.reader, NULL, 0, 0, ALL_OF_READING, NULL).number == IDZ_NO_ROWS, "a batch of 0 rows", kind, encoding);
-    expect(idz_skip(opening.reader, NULL, 0, 0).number == due, "a skip over no bytes", kind, encoding);
+    idz_given given = read_rows(opening.reader, NULL, 0, 0, 1, ALL_OF_READING, NULL);
+    expect(given.number == due && given.rows == 0 && given.bytes == 0, "no bytes read into no memory", kind, encoding);
+    given = read_rows(opening.reader, NULL, 0, 0, 0, ALL_OF_READING, NULL);
+    expect(given.number == IDZ_NO_ROWS && same_reader(given.reader, opening.reader), "nothing asked for", kind, encoding);
+    due = opens[encoding] == IDZ_DONE ? IDZ_TOO_FAR : IDZ_DISAGREE;
+    given = read_rows(opening.reader, NULL, 0, 1, 0, ALL_OF_READING, NULL);
+    expect(given.number == due && same_reader(given.reader, opening.reader), "a row passed over where there is none", kind, encoding);
     idz_builder builder = idz_create((size_t)kind, (size_t)encoding, width, 0).builder;
     idz_finished finished = finish(builder, ALL_OF_BUILDING, NULL);
     expect(finished.number == finishes[encoding] && finished.len == 0, "no rows finished into no memory", kind, encoding);
@@ -100,19 +103,27 @@ static void nothing(int kind, int encoding, size_t width) {
     }
 }
 
-/* Reads a block of these rows in every choice of areas. */
+/* Reads a block of these rows in every choice of areas, with no row passed over and with one, and passes over one alone. */
 static void read_back(int kind, int encoding, size_t width, size_t rows, const uint8_t *block, size_t len) {
+    static const size_t calls[][2] = {{0, 4}, {1, 4}, {1, 0}};
     idz_opening opening = idz_open((size_t)kind, (size_t)encoding, width, rows, block, len);
     expect(opening.number == IDZ_DONE, "a block opened", kind, encoding);
     for (unsigned missing = 0; missing <= ALL_OF_READING; missing++) {
-        struct memory before = memory;
-        idz_given one = batch(opening.reader, block, len, 4, missing, NULL);
-        struct memory after = memory;
-        memory = before;
-        idz_given other = batch(opening.reader, block, len, 4, missing, &elsewhere);
-        expect(one.number == other.number && one.rows == other.rows && one.bytes == other.bytes, "batch's answer", kind, encoding);
-        expect(same_reader(one.reader, other.reader) && same_memory(after), "what batch leaves", kind, encoding);
-        memory = before;
+        for (size_t call = 0; call < sizeof calls / sizeof calls[0]; call++) {
+            size_t skip = calls[call][0], size = calls[call][1];
+            struct memory before = memory;
+            idz_given one = read_rows(opening.reader, block, len, skip, size, missing, NULL);
+            struct memory after = memory;
+            memory = before;
+            idz_given other = read_rows(opening.reader, block, len, skip, size, missing, &elsewhere);
+            expect(one.number == other.number && one.rows == other.rows && one.bytes == other.bytes, "a read's answer", kind, encoding);
+            expect(same_reader(one.reader, other.reader) && same_memory(after), "what a read leaves", kind, encoding);
+            memory = before;
+            if (size == 0) {
+                expect(one.number == (rows == 0 ? IDZ_TOO_FAR : IDZ_DONE) && one.rows == 0, "a row passed over", kind, encoding);
+                expect(same_memory(after), "into no room", kind, encoding);
+            }
+        }
     }
 }
 

@@ -1,4 +1,4 @@
--- The four areas of a batch that hold the same one by one are the same. Assumes nothing.
+-- The four areas of a read that hold the same one by one are the same. Assumes nothing.
 use mathlib.Core.Path.{_≡_}
 use Rattle.block.specs.Reading.{Areas, areas}
 

@@ -1,6 +1,9 @@
 pub mod OpeningCases
 pub mod RecordTests
+pub mod RemainingCases
 pub mod NextRows
-pub mod SkipCases
-pub mod BatchCases
+pub mod MovedReader
+pub mod GivenRows
+pub mod ReadRows
+pub mod ReadTests
 pub mod Coincide

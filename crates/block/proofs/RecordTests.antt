@@ -78,9 +78,9 @@ right k e r h =
     }
 
 -- as taking the block apart asks it
-pub apart-asks : (k : Kind) (e : Encoding) (r : Reader) {t : Bool} → t ≡ wrong k e r → t ≡ false → Right k e (r .rows) (r .len) (r .head) 0
-apart-asks k e r tested h =
-    let w = right k e r (sym tested ∙ h) .numbers in
+pub apart-asks : {k : Kind} {e : Encoding} {r : Reader} → RightRecord k e r → Right k e (r .rows) (r .len) (r .head) 0
+apart-asks {k} {e} {r} h =
+    let w = h .numbers in
     record { size = w .size; rows = w .rows; head = head-start e (r .head) (r .spot .run) (w .head); parts = w .parts }
 
 pub place-within : (k : Kind) (e : Encoding) (r : Reader) {t : Bool} → t ≡ wrong k e r → t ≡ false → r .place ≤ r .rows

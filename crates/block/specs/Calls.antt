@@ -13,22 +13,19 @@ use Rattle.format.specs.declared.Column.the-variants.{Of, Unknown}
 use Rattle.block.specs.declared.Reader.{Reader}
 use Rattle.block.specs.declared.Opened.{Opened}
 use Rattle.block.specs.declared.Opened.the-variants.{Open, Refused}
-use Rattle.block.specs.declared.Skipped.{Skipped}
 use Rattle.format.specs.Blocks.{columnOf}
-use Rattle.block.specs.Reading.{isBytes, Areas, Batch, opened, skipped, batched}
+use Rattle.block.specs.Reading.{isBytes, Areas, Batch, read}
 
--- a batch is lent its areas anew at each call
+-- how many rows to pass over, how many to give at most, and the areas, which are lent anew at each call
 pub data Call : Type 0 where
-  skip : ℕ → Call
-  batch : ℕ → Areas → Call
+  reading : ℕ → ℕ → Areas → Call
 
--- rows passed over, rows handed out, or a refusal
+-- so many rows passed over and these handed out, or a refusal
 pub data Answer : Type 0 where
-  passed : ℕ → Answer
-  gave : List Row → Answer
+  gave : ℕ → List Row → Answer
   refused : ℕ → Answer
 
--- row i as the areas hold it after a batch
+-- row i as the areas hold it after a read
 unfoldable pub startIn : List ℕ → ℕ → ℕ
 startIn ends zero = 0
 startIn ends (suc i) = getD ends i 0
@@ -48,19 +45,14 @@ abbrev pub columnIn : Reader → Column
 columnIn r = columnOf (r .kind) (r .encoding) (r .width)
 
 -- what one call answers, and the reader after it
-unfoldable pub skipAnswer : ℕ → Skipped → Answer
-skipAnswer n s = cond (eqb (s .number) 0) (passed n) (refused (s .number))
-
-unfoldable pub batchAnswer : Column → Batch → Answer
-batchAnswer c g = cond (eqb (g .answer .number) 0) (gave (handed c (g .answer .rows) (g .areas))) (refused (g .answer .number))
+unfoldable pub readAnswer : Column → ℕ → Batch → Answer
+readAnswer c skip g = cond (eqb (g .answer .number) 0) (gave skip (handed c (g .answer .rows) (g .areas))) (refused (g .answer .number))
 
 unfoldable pub answerTo : Reader → List ℕ → Call → Answer
-answerTo r b (skip n) = skipAnswer n (skipped r b n)
-answerTo r b (batch size a) = batchAnswer (columnIn r) (batched r b size a)
+answerTo r b (reading skip size a) = readAnswer (columnIn r) skip (read r b skip size a)
 
 unfoldable pub after : Reader → List ℕ → Call → Reader
-after r b (skip n) = skipped r b n .reader
-after r b (batch size a) = batched r b size a .answer .reader
+after r b (reading skip size a) = read r b skip size a .answer .reader
 
 unfoldable pub play : Reader → List ℕ → List Call → List Answer
 play r b [] = []

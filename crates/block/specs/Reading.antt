@@ -1,7 +1,7 @@
--- 01, "Reading": opening, skip, batch and remaining as functions of the record, the arguments, the block and what the lent areas hold, for every
+-- 01, "Reading", and 02 (iv): opening, read and remaining as functions of the record, the arguments, the block and what the lent areas hold, for every
 -- record and every block. What is read is said row by row; anatomy has the tests of the numbers at a block's head, and fill the lent areas. Assumes nothing.
 use Prim.Native.Nat.{ℕ, zero, suc, _+_, _-_, min}
-use mathlib.Core.Bool.{Bool, cond, not, _||_}
+use mathlib.Core.Bool.{Bool, cond, not, _&&_, _||_}
 use mathlib.Core.List.{List, map}
 use lib.Dec.{ltb, eqb}
 use lib.ListN.{length}
@@ -26,7 +26,6 @@ use Rattle.block.specs.declared.Reader.{Reader}
 use Rattle.block.specs.declared.Opened.{Opened}
 use Rattle.block.specs.declared.Opened.the-variants.{Open, Refused}
 use Rattle.block.specs.declared.Opening.{Opening}
-use Rattle.block.specs.declared.Skipped.{Skipped}
 use Rattle.block.specs.declared.Given.{Given}
 use Rattle.block.specs.declared.Left.{Left}
 
@@ -56,7 +55,7 @@ unfoldable pub opened : ℕ → ℕ → ℕ → ℕ → List ℕ → Opened
 opened kind encoding width n b =
     openedBy (openNumber kind encoding width n b) (readerAt kind encoding width n (length b) (headIn (columnOf kind encoding width) b))
 
--- The record beside a refused opening: no kind has the number 255, so every call refuses it as 9, but for a batch of 0 rows, which is 6.
+-- The record beside a refused opening: no kind has the number 255, so every call refuses it as 9, but for a read that asks for nothing, which is 6.
 abbrev pub noReader : Reader
 noReader = readerAt 255 0 0 0 0 (head 0 0 0 0)
 
@@ -105,26 +104,8 @@ remainingIn (Of k e) r = cond (wrong k e r) (left DISAGREE 0 r) (left 0 (r .rows
 unfoldable pub remaining : Reader → Left
 remaining r = remainingIn (columnOf (r .kind) (r .encoding) (r .width)) r
 
--- ---- skip: 9 for the length and the record, 7, 9 for the fields
-abbrev pub skipTo : ℕ → Reader → Skipped
-skipTo e r = record { number = e; reader = r }
-
-unfoldable pub skipOver : Reader → ℕ → Steps → Skipped
-skipOver r n stuck = skipTo DISAGREE r
-skipOver r n (rows is t) = skipTo 0 (moved r n t)
-
-unfoldable pub skippedIn : Column → Reader → List ℕ → ℕ → Skipped
-skippedIn Unknown r b n = skipTo DISAGREE r
-skippedIn (Of k e) r b n =
-    cond (not (eqb (length b) (r .len)) || wrong k e r) (skipTo DISAGREE r)
-    (cond (ltb (r .rows - r .place) n) (skipTo TOO_FAR r)
-    (skipOver r n (nextSteps e r b n)))
-
-unfoldable pub skipped : Reader → List ℕ → ℕ → Skipped
-skipped r b n = skippedIn (columnOf (r .kind) (r .encoding) (r .width)) r b n
-
--- ---- batch
--- what a batch comes to: its answer, and what the lent areas then hold
+-- ---- read: passes over rows, then gives up to so many of those behind them
+-- what a read comes to: its answer, and what the lent areas then hold
 pub record Batch : Type 0 where
   pub answer : Given
   pub areas : Areas
@@ -132,6 +113,7 @@ pub record Batch : Type 0 where
 abbrev pub refusedBatch : ℕ → Reader → Areas → Batch
 refusedBatch e r a = record { answer = record { number = e; rows = 0; bytes = 0; reader = r }; areas = a }
 
+-- rows given: 4 if the room is too short for all of them
 unfoldable pub give : Kind → Reader → List Row → Spot → Areas → Batch
 give k r rs t a =
     cond (short k rs a) (refusedBatch ROOM r a)
@@ -140,19 +122,38 @@ give k r rs t a =
       areas = filledIn k rs a;
     })
 
+-- of rows given the counts, the blob ends and the keys are looked at, all of it before the room
 unfoldable pub batchOf : Kind → Encoding → Reader → List ℕ → Areas → Steps → Batch
 batchOf k e r b a stuck = refusedBatch DISAGREE r a
 batchOf k e r b a (rows is t) =
     cond (allOf (rowGood k e (r .rows) (r .head) b) is) (give k r (map (rowAt k e (r .rows) (r .head) b) is) t a) (refusedBatch DISAGREE r a)
 
--- 6; 9 for the length, the record and the fields of all rows given; 4. A batch gives min(size, remaining) rows.
-unfoldable pub batchedIn : Column → Reader → List ℕ → ℕ → Areas → Batch
-batchedIn Unknown r b size a = refusedBatch DISAGREE r a
-batchedIn (Of k e) r b size a =
-    cond (not (eqb (length b) (r .len)) || wrong k e r) (refusedBatch DISAGREE r a)
-    (batchOf k e r b a (nextSteps e r b (min size (r .rows - r .place))))
+-- up to `size` of the rows that remain
+unfoldable pub upTo : Kind → Encoding → Reader → List ℕ → ℕ → Areas → Batch
+upTo k e r b size a = batchOf k e r b a (nextSteps e r b (min size (r .rows - r .place)))
 
-unfoldable pub batched : Reader → List ℕ → ℕ → Areas → Batch
-batched r b size a =
-    cond (eqb size 0) (refusedBatch NO_ROWS r a)
-    (batchedIn (columnOf (r .kind) (r .encoding) (r .width)) r b size a)
+-- whole or not at all: a refusal hands back the reader and the areas that the call was given
+unfoldable pub whole : Reader → Areas → Batch → Batch
+whole r a x = cond (eqb (x .answer .number) 0) x (refusedBatch (x .answer .number) r a)
+
+-- of rows passed over the counts alone are looked at
+unfoldable pub passThen : Kind → Encoding → Reader → List ℕ → ℕ → ℕ → Areas → Steps → Batch
+passThen k e r b skip size a stuck = refusedBatch DISAGREE r a
+passThen k e r b skip size a (rows is t) = whole r a (upTo k e (moved r skip t) b size a)
+
+-- 6; 9 for the length and the record; 7; 9 for the fields; 4
+unfoldable pub readIn : Column → Reader → List ℕ → ℕ → ℕ → Areas → Batch
+readIn Unknown r b skip size a = refusedBatch DISAGREE r a
+readIn (Of k e) r b skip size a =
+    cond (not (eqb (length b) (r .len)) || wrong k e r) (refusedBatch DISAGREE r a)
+    (cond (ltb (r .rows - r .place) skip) (refusedBatch TOO_FAR r a)
+    (passThen k e r b skip size a (nextSteps e r b skip)))
+
+-- a read that asks for nothing: no rows passed over, and none given
+abbrev pub asksNothing : ℕ → ℕ → Bool
+asksNothing skip size = eqb skip 0 && eqb size 0
+
+unfoldable pub read : Reader → List ℕ → ℕ → ℕ → Areas → Batch
+read r b skip size a =
+    cond (asksNothing skip size) (refusedBatch NO_ROWS r a)
+    (readIn (columnOf (r .kind) (r .encoding) (r .width)) r b skip size a)

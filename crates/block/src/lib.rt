@@ -34,14 +34,7 @@ pub struct Opening {
     pub reader: Reader,
 }
 
-// What a skip answers: 0, or a refusal with the reader as it was.
-#[repr(C)]
-pub struct Skipped {
-    pub number: u8,
-    pub reader: Reader,
-}
-
-// What a batch answers: the rows given and, for char, blob and string, the bytes written.
+// What a read answers: the rows given and, for char, blob and string, the bytes written; or a refusal with the reader as it was.
 #[repr(C)]
 pub struct Given {
     pub number: u8,

@@ -1,9 +1,8 @@
-// The reader's calls: open, remaining, skip and batch.
+// The reader's calls: open, remaining and read.
 use crate::Given;
 use crate::Left;
 use crate::Opened;
 use crate::Reader;
-use crate::Skipped;
 use anatomy::Parts;
 use encode::Kind;
 use format::Column;
@@ -23,8 +22,8 @@ ghost use Rattle.format.specs.Blocks.{columnOf};
 ghost use Rattle.anatomy.specs.Parts.{AllWithin};
 ghost use Rattle.part_rows.specs.PartRows.{stepsBy};
 ghost use Rattle.fill.specs.Areas.{areas};
-ghost use Rattle.block.specs.Reading.{readerAt, opened, noReader, wrong as contradicts, remaining as remainingOf, skipTo, skipped, batched};
-ghost use Rattle.block.specs.Spots.{startOf, movedBy};
+ghost use Rattle.block.specs.Reading.{readerAt, opened, noReader, wrong as contradicts, remaining as remainingOf, asksNothing, read as readOf};
+ghost use Rattle.block.specs.Spots.{startOf, movedBy, testsOf};
 
 // Opens a block of `rows` rows. The refusals come in the order of document 01.
 pub fn open(kind: usize, encoding: usize, width: usize, rows: usize, block: &[u8]) -> Opened
@@ -67,26 +66,42 @@ pub fn no_reader() -> Reader
     Reader::at_start(255, 0, 0, 0, 0, none)
 }
 
-// The place in the runs after `n` rows.
+// The place after `n` rows.
 fn pass(parts: Parts, from: Spot, block: &[u8], n: usize) -> Reached
-    requires { ⌜ AllWithin parts (length (now block)) × (parts .source .coded ≡ true) × (parts .source .runs ≤ MOST_ITEMS) ⌝ }
+    requires { ⌜ AllWithin parts (length (now block)) × (parts .source .runs ≤ MOST_ITEMS) × (from .run + n < 2 ^ 64) ⌝ }
     ensures { λ r. ⌜ r ≡ reached (stepsBy parts from (now (block .entry)) n) ⌝ }
 {
     let source = parts.source;
+    if !source.coded {
+        return Reached::At(Spot {
+            run: from.run + n,
+            at: from.at,
+            taken: from.taken,
+        });
+    }
     let counts = parts.counts;
     let a = counts.from;
     let b = counts.to;
     rle::advance(&block[a..b], source.runs, from, n)
 }
 
-// A refused skip leaves the reader where it is.
-fn unmoved(number: u8, reader: Reader) -> Skipped
-    ensures { λ r. ⌜ r ≡ skipTo number reader ⌝ }
+// Whether a read would pass over no rows and give none.
+fn nothing_asked(skip: usize, size: usize) -> bool
+    ensures { λ r. ⌜ r ≡ asksNothing skip size ⌝ }
 {
-    Skipped { number, reader }
+    if skip != 0 {
+        return false;
+    }
+    size == 0
 }
 
-// A refused batch.
+// What the tests before any field come to: the kind and the encoding, or the number of a refusal.
+enum Tested {
+    Fine { kind: Kind, encoding: Encoding },
+    Refused(u8),
+}
+
+// A refused read leaves the reader where it is.
 fn refused(number: u8, reader: Reader) -> Given
     ensures { λ r. ⌜ r ≡ record { number = number; rows = 0; bytes = 0; reader = reader } ⌝ }
 {
@@ -205,83 +220,69 @@ impl Reader {
         }
     }
 
-    // Passes over `n` rows.
-    pub fn skip(self, block: &[u8], n: usize) -> Skipped
-        ensures { λ r. ⌜ r ≡ skipped self (now (block .entry)) n ⌝ }
+    // The tests of a read before any field, in their order; the block is `len` bytes long. They are one function and not the start of
+    // `read`, so that the compiler takes the rows for what is likely to come.
+    fn tested(self, len: usize, skip: usize, size: usize) -> Tested
+        ensures { λ r. ⌜ r ≡ testsOf self len skip size ⌝ }
     {
+        if nothing_asked(skip, size) {
+            return Tested::Refused(refusal::NO_ROWS);
+        }
         let column = self.named();
         let Column::Of { kind, encoding } = column else {
-            return unmoved(refusal::DISAGREE, self);
+            return Tested::Refused(refusal::DISAGREE);
         };
-        if block.len() != self.len {
-            return unmoved(refusal::DISAGREE, self);
+        if len != self.len {
+            return Tested::Refused(refusal::DISAGREE);
         }
         if self.wrong(kind, encoding) {
-            return unmoved(refusal::DISAGREE, self);
+            return Tested::Refused(refusal::DISAGREE);
         }
-        if self.rows - self.place < n {
-            return unmoved(refusal::TOO_FAR, self);
+        if self.rows - self.place < skip {
+            return Tested::Refused(refusal::TOO_FAR);
         }
-        let parts = anatomy::take_apart(kind, encoding, self.rows, self.len, self.head);
-        let source = parts.source;
-        if !source.coded {
-            return Skipped {
-                number: 0,
-                reader: self.moved(false, n, self.spot),
-            };
-        }
-        let there = pass(parts, self.spot, block, n);
-        let Reached::At(t) = there else {
-            return unmoved(refusal::DISAGREE, self);
-        };
-        Skipped {
-            number: 0,
-            reader: self.moved(true, n, t),
-        }
+        Tested::Fine { kind, encoding }
     }
 
-    // Gives up to `size` rows.
-    pub fn batch(
+    // Passes over `skip` rows, then gives up to `size` of those behind them; if that can't be done whole, nothing is.
+    pub fn read(
         self,
         block: &[u8],
+        skip: usize,
         size: usize,
         values: &mut [i64],
         flags: &mut [u8],
         ends: &mut [u32],
         bytes: &mut [u8],
     ) -> Given
-        ensures { λ r. ⌜ r ≡ batched self (now (block .entry)) size (areas (now (values .entry)) (now (flags .entry)) (now (ends .entry)) (now (bytes .entry))) .answer ⌝ }
-        ensures { λ _. ⌜ now (values .exit) ≡ batched self (now (block .entry)) size (areas (now (values .entry)) (now (flags .entry)) (now (ends .entry)) (now (bytes .entry))) .areas .values ⌝ }
-        ensures { λ _. ⌜ now (flags .exit) ≡ batched self (now (block .entry)) size (areas (now (values .entry)) (now (flags .entry)) (now (ends .entry)) (now (bytes .entry))) .areas .flags ⌝ }
-        ensures { λ _. ⌜ now (ends .exit) ≡ batched self (now (block .entry)) size (areas (now (values .entry)) (now (flags .entry)) (now (ends .entry)) (now (bytes .entry))) .areas .ends ⌝ }
-        ensures { λ _. ⌜ now (bytes .exit) ≡ batched self (now (block .entry)) size (areas (now (values .entry)) (now (flags .entry)) (now (ends .entry)) (now (bytes .entry))) .areas .bytes ⌝ }
+        ensures { λ r. ⌜ r ≡ readOf self (now (block .entry)) skip size (areas (now (values .entry)) (now (flags .entry)) (now (ends .entry)) (now (bytes .entry))) .answer ⌝ }
+        ensures { λ _. ⌜ now (values .exit) ≡ readOf self (now (block .entry)) skip size (areas (now (values .entry)) (now (flags .entry)) (now (ends .entry)) (now (bytes .entry))) .areas .values ⌝ }
+        ensures { λ _. ⌜ now (flags .exit) ≡ readOf self (now (block .entry)) skip size (areas (now (values .entry)) (now (flags .entry)) (now (ends .entry)) (now (bytes .entry))) .areas .flags ⌝ }
+        ensures { λ _. ⌜ now (ends .exit) ≡ readOf self (now (block .entry)) skip size (areas (now (values .entry)) (now (flags .entry)) (now (ends .entry)) (now (bytes .entry))) .areas .ends ⌝ }
+        ensures { λ _. ⌜ now (bytes .exit) ≡ readOf self (now (block .entry)) skip size (areas (now (values .entry)) (now (flags .entry)) (now (ends .entry)) (now (bytes .entry))) .areas .bytes ⌝ }
     {
-        if size == 0 {
-            return refused(refusal::NO_ROWS, self);
-        }
-        let column = self.named();
-        let Column::Of { kind, encoding } = column else {
-            return refused(refusal::DISAGREE, self);
-        };
-        if block.len() != self.len {
-            return refused(refusal::DISAGREE, self);
-        }
-        if self.wrong(kind, encoding) {
-            return refused(refusal::DISAGREE, self);
-        }
-        let n = area::least(size, self.rows - self.place);
-        let parts = anatomy::take_apart(kind, encoding, self.rows, self.len, self.head);
-        let source = parts.source;
-        let from = self.start(source.coded);
-        let filled = fill::write_rows(parts, from, block, n, values, flags, ends, bytes);
-        if filled.number != 0 {
-            return refused(filled.number, self);
-        }
-        Given {
-            number: 0,
-            rows: n,
-            bytes: filled.bytes,
-            reader: self.moved(source.coded, n, filled.next),
+        let tested = self.tested(block.len(), skip, size);
+        match tested {
+            Tested::Refused(number) => refused(number, self),
+            Tested::Fine { kind, encoding } => {
+                let parts = anatomy::take_apart(kind, encoding, self.rows, self.len, self.head);
+                let source = parts.source;
+                let there = pass(parts, self.start(source.coded), block, skip);
+                let Reached::At(from) = there else {
+                    return refused(refusal::DISAGREE, self);
+                };
+                let n = area::least(size, self.rows - self.place - skip);
+                let filled = fill::write_rows(parts, from, block, n, values, flags, ends, bytes);
+                if filled.number != 0 {
+                    return refused(filled.number, self);
+                }
+                Given {
+                    number: 0,
+                    rows: n,
+                    bytes: filled.bytes,
+                    reader: self.moved(source.coded, skip + n, filled.next),
+                }
+            }
         }
     }
 }

@@ -7,7 +7,6 @@ use mathlib.Core.List.{List}
 use Rattle.block.specs.declared.Reader.{Reader}
 use Rattle.block.specs.declared.Opening.{Opening}
 use Rattle.block.specs.declared.Given.{Given}
-use Rattle.block.specs.declared.Skipped.{Skipped}
 use Rattle.block.specs.declared.Left.{Left}
 use Rattle.block.specs.Reading.{Areas}
 use Rattle.block.proofs.Coincide.{same-areas}
@@ -17,18 +16,15 @@ use Rattle.builder.specs.declared.Finished.{Finished}
 use Rattle.builder.specs.declared.Estimated.{Estimated}
 use Rattle.builder.specs.declared.Asked.{Asked}
 use Rattle.capi.specs.declared.building.Creation.{Creation}
-use Rattle.capi.specs.Promises.{Opens, Batches, Skips, Remains, Creates, Finishes, Estimates, Asks}
+use Rattle.capi.specs.Promises.{Opens, Reads, Remains, Creates, Finishes, Estimates, Asks}
 
 -- ---- reading
 pub one-opening : (kind encoding width rows : ℕ) (block : List ℕ) (x y : Opening) → Opens kind encoding width rows block x → Opens kind encoding width rows block y → x ≡ y
 one-opening kind encoding width rows block x y p q = p ∙ sym q
 
-pub one-batch : (reader : Reader) (block : List ℕ) (size : ℕ) (lent : Areas) (x y : Given) (a b : Areas)
-    → Batches reader block size lent x a → Batches reader block size lent y b → (x ≡ y) × (a ≡ b)
-one-batch reader block size lent x y a b p q = (p .0 ∙ sym (q .0), same-areas a b (p .1 ∙ sym (q .1)) (p .2 ∙ sym (q .2)) (p .3 ∙ sym (q .3)) (p .4 ∙ sym (q .4)))
-
-pub one-skip : (reader : Reader) (block : List ℕ) (rows : ℕ) (x y : Skipped) → Skips reader block rows x → Skips reader block rows y → x ≡ y
-one-skip reader block rows x y p q = p ∙ sym q
+pub one-read : (reader : Reader) (block : List ℕ) (skip size : ℕ) (lent : Areas) (x y : Given) (a b : Areas)
+    → Reads reader block skip size lent x a → Reads reader block skip size lent y b → (x ≡ y) × (a ≡ b)
+one-read reader block skip size lent x y a b p q = (p .0 ∙ sym (q .0), same-areas a b (p .1 ∙ sym (q .1)) (p .2 ∙ sym (q .2)) (p .3 ∙ sym (q .3)) (p .4 ∙ sym (q .4)))
 
 pub one-remaining : (reader : Reader) (x y : Left) → Remains reader x → Remains reader y → x ≡ y
 one-remaining reader x y p q = p ∙ sym q

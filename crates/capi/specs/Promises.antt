@@ -7,9 +7,8 @@ use mathlib.Core.List.{List}
 use Rattle.block.specs.declared.Reader.{Reader}
 use Rattle.block.specs.declared.Opening.{Opening}
 use Rattle.block.specs.declared.Given.{Given}
-use Rattle.block.specs.declared.Skipped.{Skipped}
 use Rattle.block.specs.declared.Left.{Left}
-use Rattle.block.specs.Reading.{Areas, opened, openingOf, skipped, remaining, batched}
+use Rattle.block.specs.Reading.{Areas, opened, openingOf, remaining, read}
 use Rattle.append.specs.Appending.{Lent}
 use Rattle.builder.specs.declared.Builder.{Builder}
 use Rattle.builder.specs.declared.Finished.{Finished}
@@ -24,16 +23,13 @@ use Rattle.capi.specs.Answers.{creationOf}
 abbrev pub Opens : (kind encoding width rows : ℕ) (block : List ℕ) → Opening → Type 0
 Opens kind encoding width rows block answer = answer ≡ openingOf (opened kind encoding width rows block)
 
-abbrev pub Batches : (reader : Reader) (block : List ℕ) (size : ℕ) (lent : Areas) → Given → Areas → Type 0
-Batches reader block size lent answer left =
-    (answer ≡ batched reader block size lent .answer)
-    × (left .values ≡ batched reader block size lent .areas .values)
-    × (left .flags ≡ batched reader block size lent .areas .flags)
-    × (left .ends ≡ batched reader block size lent .areas .ends)
-    × (left .bytes ≡ batched reader block size lent .areas .bytes)
-
-abbrev pub Skips : (reader : Reader) (block : List ℕ) (rows : ℕ) → Skipped → Type 0
-Skips reader block rows answer = answer ≡ skipped reader block rows
+abbrev pub Reads : (reader : Reader) (block : List ℕ) (skip size : ℕ) (lent : Areas) → Given → Areas → Type 0
+Reads reader block skip size lent answer left =
+    (answer ≡ read reader block skip size lent .answer)
+    × (left .values ≡ read reader block skip size lent .areas .values)
+    × (left .flags ≡ read reader block skip size lent .areas .flags)
+    × (left .ends ≡ read reader block skip size lent .areas .ends)
+    × (left .bytes ≡ read reader block skip size lent .areas .bytes)
 
 abbrev pub Remains : (reader : Reader) → Left → Type 0
 Remains reader answer = answer ≡ remaining reader

@@ -6,9 +6,8 @@ use block::Given;
 use block::Left;
 use block::Opening;
 use block::Reader;
-use block::Skipped;
 ghost use Rattle.block.specs.Reading.{areas};
-ghost use Rattle.capi.specs.Promises.{Opens, Batches, Skips, Remains};
+ghost use Rattle.capi.specs.Promises.{Opens, Reads, Remains};
 
 // Opens a block of `rows` rows.
 #[no_mangle]
@@ -24,30 +23,23 @@ pub extern "C" fn idz_open(
     block::open_by_number(kind, encoding, width, rows, bytes)
 }
 
-// Reads up to `size` rows.
+// Passes over `skip` rows, then gives up to `size` of those behind them.
 #[no_mangle]
-pub extern "C" fn idz_batch(
+pub extern "C" fn idz_read(
     reader: Reader,
     block: &[u8],
+    skip: usize,
     size: usize,
     values: &mut [i64],
     flags: &mut [u8],
     ends: &mut [u32],
     bytes: &mut [u8],
 ) -> Given
-    ensures { λ r. ⌜ Batches reader (now (block .entry)) size
+    ensures { λ r. ⌜ Reads reader (now (block .entry)) skip size
         (areas (now (values .entry)) (now (flags .entry)) (now (ends .entry)) (now (bytes .entry)))
         r (areas (now (values .exit)) (now (flags .exit)) (now (ends .exit)) (now (bytes .exit))) ⌝ }
 {
-    reader.batch(block, size, values, flags, ends, bytes)
-}
-
-// Passes over `rows` rows.
-#[no_mangle]
-pub extern "C" fn idz_skip(reader: Reader, block: &[u8], rows: usize) -> Skipped
-    ensures { λ r. ⌜ Skips reader (now (block .entry)) rows r ⌝ }
-{
-    reader.skip(block, rows)
+    reader.read(block, skip, size, values, flags, ends, bytes)
 }
 
 // How many rows are left.

@@ -1,4 +1,4 @@
--- 01, "Reading": the areas that a batch is lent, and what they hold once the rows of it are written. Assumes nothing.
+-- 01, "Reading": the areas that a read is lent, and what they hold once its rows are written. Assumes nothing.
 use Prim.Native.Nat.{ℕ}
 use mathlib.Core.Bool.{Bool, true, false, cond, _||_}
 use mathlib.Core.List.{List, map}
@@ -37,7 +37,7 @@ short k rs a =
     (ltb (length (a .ends)) (length rs) || ltb (length (a .bytes)) (length (joined bytesIn rs)) || ltb MOST_GIVEN (length (joined bytesIn rs)))
     (ltb (length (a .values)) (length rs))
 
--- One flag byte a row, 1 if present. Ends count from the batch's start. A null writes 0 or no bytes, and flag 0. What lies behind the answer stays.
+-- One flag byte a row, 1 if present. Ends count from the first byte that the read gives. A null writes 0 or no bytes, and flag 0. What lies behind the answer stays.
 unfoldable pub filledIn : Kind → List Row → Areas → Areas
 filledIn k rs a =
     cond (isBytes k)

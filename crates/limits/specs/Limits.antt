@@ -23,7 +23,7 @@ MOST_BYTES = 16777216
 abbrev pub MOST_COUNT : ℕ
 MOST_COUNT = 4294967295
 
--- bytes of char, blob and string rows that one batch gives
+-- bytes of char, blob and string rows that one read gives
 abbrev pub MOST_GIVEN : ℕ
 MOST_GIVEN = 4294967295
 

@@ -17,11 +17,11 @@ LIMIT = 3
 abbrev pub ROOM : ℕ
 ROOM = 4
 
--- a batch of 0 rows
+-- nothing asked for: a read that passes over no rows and gives none
 abbrev pub NO_ROWS : ℕ
 NO_ROWS = 6
 
--- a skip above the rows remaining
+-- more rows to pass over than remain
 abbrev pub TOO_FAR : ℕ
 TOO_FAR = 7
 

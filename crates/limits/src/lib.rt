@@ -16,7 +16,7 @@ pub const MOST_BYTES: usize = 16_777_216;
 // The most rows of one run.
 pub const MOST_COUNT: usize = 4_294_967_295;
 
-// The most bytes of char, blob and string rows that one batch gives: an end is a u32.
+// The most bytes of char, blob and string rows that one read gives: an end is a u32.
 pub const MOST_GIVEN: usize = 4_294_967_295;
 
 // The most bytes of the listing program's input: a descriptor and a block.

@@ -12,10 +12,10 @@ pub const LIMIT: u8 = 3;
 // Lent room is too short for the whole answer.
 pub const ROOM: u8 = 4;
 
-// A batch of 0 rows.
+// Nothing asked for: a read that passes over no rows and gives none.
 pub const NO_ROWS: u8 = 6;
 
-// A skip above the rows remaining.
+// More rows to pass over than remain.
 pub const TOO_FAR: u8 = 7;
 
 // The record and the lent memory disagree.

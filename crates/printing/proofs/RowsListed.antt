@@ -1,4 +1,4 @@
--- The batches of a listing: one more, the first that is refused, and that none is refused of a block that was opened. Assumes nothing.
+-- The reads of a listing: one more, the first that is refused, and that none is refused of a block that was opened. Assumes nothing.
 use Prim.Native.Nat.{ℕ, zero, suc, _+_, _-_, _≤_, _<_, min}
 use native.Mathlib.Omega.{arith}
 use mathlib.Core.Bool.{Bool, true, false, cond}
@@ -23,23 +23,23 @@ use Rattle.block.specs.declared.Given.{Given}
 use Rattle.block.specs.declared.Left.{Left}
 use Rattle.block.specs.declared.Opened.{Opened}
 use Rattle.block.specs.declared.Opened.the-variants.{Open, Refused}
-use Rattle.block.specs.Reading.{areas, opened, left, remainingIn, remaining, batched}
+use Rattle.block.specs.Reading.{areas, opened, left, remainingIn, remaining, read}
 use Rattle.text.specs.declared.Descriptor.{Descriptor}
 use Rattle.text.specs.Descriptor.{descriptorOf, describedOpened, inputOpened, blockIn}
 use Rattle.reading_laws.specs.Calls.{afterAll}
 use Rattle.reading_laws.proofs.Calls.{found, counts-add-up}
-use Rattle.reading_laws.proofs.Consequences.{batch-depends-on-the-block-alone}
+use Rattle.reading_laws.proofs.Consequences.{read-depends-on-the-block-alone}
 use Rattle.reading_laws.proofs.RoomForOne.{Holds, row-given}
 use Rattle.reading_laws.proofs.RowsLeft.{Stands}
 use Rattle.printing.specs.Printing.{areasForOne, nextRow, rowsRefused, listedOf, listed}
 
--- ---- one batch: its answer hangs on the room that it is lent, not on what that holds
+-- ---- one read: its answer hangs on the room that it is lent, not on what that holds
 pub next-row : (r : Reader) (b : List ℕ) (v : ℤ) (f e : ℕ) (bytes : List ℕ) {x : Given}
-    → x ≡ batched r b 1 (areas (v ∷ []) (f ∷ []) (e ∷ []) bytes) .answer → x ≡ nextRow r b (length bytes)
+    → x ≡ read r b 0 1 (areas (v ∷ []) (f ∷ []) (e ∷ []) bytes) .answer → x ≡ nextRow r b (length bytes)
 unfolding nextRow
 next-row r b v f e bytes q =
-    q ∙ batch-depends-on-the-block-alone r b (areas (v ∷ []) (f ∷ []) (e ∷ []) bytes) (areasForOne (length bytes))
-    (record { values = refl; flags = refl; ends = refl; bytes = sym (length-replicate (length bytes) 0) }) 1 .answer
+    q ∙ read-depends-on-the-block-alone r b (areas (v ∷ []) (f ∷ []) (e ∷ []) bytes) (areasForOne (length bytes))
+    (record { values = refl; flags = refl; ends = refl; bytes = sym (length-replicate (length bytes) 0) }) 0 1 .answer
 
 -- ---- one after the other
 module _ (n i : ℕ) (r : Reader) (b : List ℕ) (room : ℕ) (left : i < n) {x : Given} (q : x ≡ nextRow r b room) where

@@ -11,22 +11,22 @@ use Rattle.block.specs.declared.Given.{Given}
 use Rattle.block.specs.declared.Left.{Left}
 use Rattle.block.specs.declared.Opened.{Opened}
 use Rattle.block.specs.declared.Opened.the-variants.{Open, Refused}
-use Rattle.block.specs.Reading.{Areas, areas, remaining, batched}
+use Rattle.block.specs.Reading.{Areas, areas, remaining, read}
 
 -- 0, or the number that is printed behind `refused`
 unfoldable pub refusalOf : Opened → ℕ
 refusalOf (Open r) = 0
 refusalOf (Refused e) = e
 
--- ---- the rows of a reader, a batch for each
+-- ---- the rows of a reader, a read for each
 -- the areas of one row, with so much room for its bytes; what they hold has no part in the answer
 abbrev pub areasForOne : ℕ → Areas
 areasForOne room = areas (pos 0 ∷ []) (0 ∷ []) (0 ∷ []) (replicate room 0)
 
 unfoldable pub nextRow : Reader → List ℕ → ℕ → Given
-nextRow r b room = batched r b 1 (areasForOne room) .answer
+nextRow r b room = read r b 0 1 (areasForOne room) .answer
 
--- of n such batches, one after the other, the number of the first that is refused; 0 if none is
+-- of n such reads, one after the other, the number of the first that is refused; 0 if none is
 unfoldable pub rowsRefused : ℕ → Reader → List ℕ → ℕ → ℕ
 rowsRefused zero r b room = 0
 rowsRefused (suc n) r b room =

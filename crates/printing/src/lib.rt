@@ -28,7 +28,7 @@ pub fn print(input: &[u8]) -> u8
     }
 }
 
-// Lists the rows that a reader has left: `rows`, at most 1,000 rows, `more` where more are left, `end`. A batch that is refused ends
+// Lists the rows that a reader has left: `rows`, at most 1,000 rows, `more` where more are left, `end`. A read that is refused ends
 // the listing: `refused` and its number stand in the row's place, nothing follows, and the number comes back. No reader that was opened on
 // the block comes to that, as the proof of `print` shows; a record or a block that has changed since is told so, and never as rows.
 pub fn print_rows(reader: Reader, block: &[u8]) -> u8
@@ -129,7 +129,7 @@ fn say_each(
     0
 }
 
-// One row: a batch of it, then its line.
+// One row: it is read, then its line is written.
 fn say_next(
     reader: Reader,
     kind: Kind,
@@ -143,7 +143,7 @@ fn say_next(
     let mut values = [0i64; 1];
     let mut flags = [0u8; 1];
     let mut ends = [0u32; 1];
-    let answer = reader.batch(block, 1, &mut values, &mut flags, &mut ends, bytes);
+    let answer = reader.read(block, 0, 1, &mut values, &mut flags, &mut ends, bytes);
     if answer.number != 0 {
         say_refused(answer.number);
         return answer;

@@ -1,4 +1,4 @@
-// Commands 3 to 6: opening, skips, batches, a given block.
+// Commands 3 to 5: opening, reads, a given block.
 use crate::Reading;
 use crate::named_at;
 use crate::showing::show_named;
@@ -66,34 +66,26 @@ fn open(s: &[u8], from: Reading, block: &[u8]) -> Reading {
     moved(from, rows.next, opened(answer))
 }
 
-fn skip(s: &[u8], from: Reading, block: &[u8]) -> Reading {
-    let n = number(s, from.at);
-    let reader = from.reader;
-    say(b"skip");
-    show_size(n.value);
-    let answer = reader.skip(block, n.value);
-    refused(answer.number);
-    moved(from, n.next, answer.reader)
-}
-
 fn give(
     reader: Reader,
     block: &[u8],
+    skip: usize,
     size: usize,
     values: &mut [i64],
     flags: &mut [u8],
     ends: &mut [u32],
     bytes: &mut [u8],
 ) -> Reader {
-    let answer = reader.batch(block, size, values, flags, ends, bytes);
+    let answer = reader.read(block, skip, size, values, flags, ends, bytes);
     refused(answer.number);
     show_rows(reader, answer.rows, values, flags, ends, bytes);
     answer.reader
 }
 
-fn batch(s: &[u8], from: Reading, block: &[u8]) -> Reading {
-    let size = number(s, from.at);
-    say(b"batch");
+fn read(s: &[u8], from: Reading, block: &[u8]) -> Reading {
+    let skip = number(s, from.at);
+    let size = number(s, skip.next);
+    say(b"read");
     let mut values = [0i64; 512];
     let mut flags = [0u8; 512];
     let mut ends = [0u32; 512];
@@ -101,6 +93,7 @@ fn batch(s: &[u8], from: Reading, block: &[u8]) -> Reading {
     let reader = give(
         from.reader,
         block,
+        skip.value,
         size.value,
         &mut values,
         &mut flags,
@@ -113,8 +106,7 @@ fn batch(s: &[u8], from: Reading, block: &[u8]) -> Reading {
 pub fn run(s: &[u8], from: Reading, command: u8, room: &mut [u8]) -> Reading {
     match command {
         3 => open(s, from, first(room, from.len)),
-        4 => skip(s, from, first(room, from.len)),
-        5 => batch(s, from, first(room, from.len)),
+        4 => read(s, from, first(room, from.len)),
         _ => give_block(s, from, room),
     }
 }

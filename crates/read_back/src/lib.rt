@@ -1,4 +1,4 @@
-// A block read back by the commands of standard input: opening, skips and batches, each with the rows that remain, and a block given.
+// A block read back by the commands of standard input: opening and reads, each with the rows that remain, and a block given.
 mod calls;
 mod showing;
 

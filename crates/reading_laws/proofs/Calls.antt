@@ -1,16 +1,16 @@
 -- 01, "Reading": a sound block, read from its opening on by any calls on the same bytes, refused ones among them, hands out exactly the rows that
 -- are not skipped, nulls among them, in order, up to the place reached. Assumes nothing.
-use Prim.Native.Nat.{ℕ, zero, suc, _+_, _-_, _≤_}
+use Prim.Native.Nat.{ℕ, zero, suc, _+_, _≤_}
 use native.Mathlib.Nat.{min-le-right}
 use native.Mathlib.Omega.{arith}
 use mathlib.Core.Bool.{Bool, true, false, cond, _||_}
 use mathlib.Core.List.{List, [], _∷_}
 use mathlib.Core.Logic.{_⊎_, inl, inr}
 use mathlib.Core.Path.{_≡_, refl, sym, ap, subst, _∙_}
-use lib.Dec.{ltb, eqb}
-use lib.ListN.{length, take, drop, length-append, length-take, length-drop, length-map}
+use lib.Dec.{ltb}
+use lib.ListN.{length, take, drop, length-append, length-take, length-drop, length-map, drop-of-length-le}
 use lib.Seq.{take-nil}
-use borrow.Author.Tests.{le-ltb, ltb-false, ne-eqb, eqb-false}
+use borrow.Author.Tests.{le-ltb, ltb-false}
 use Rattle.limits.specs.Limits.{MOST_GIVEN}
 use Rattle.limits.specs.Refusals.{ROOM, NO_ROWS, TOO_FAR}
 use Rattle.encode.specs.declared.Kind.{Kind}
@@ -24,8 +24,8 @@ use Rattle.format.specs.Opening.{headOf, placesOf, rowAt, rowsOf, columnNumber,
 use Rattle.block.specs.declared.Reader.{Reader}
 use Rattle.block.specs.declared.Opened.{Opened}
 use Rattle.block.specs.declared.Opened.the-variants.{Open}
-use Rattle.block.specs.Reading.{Areas, isBytes, short, headIn, readerAt, openedBy, opened, left, remainingIn, remaining, batched}
-use Rattle.block.specs.Calls.{Call, skip, batch, Answer, passed, gave, refused, answerTo, after, play, playOpened}
+use Rattle.block.specs.Reading.{Areas, isBytes, short, headIn, readerAt, openedBy, opened, left, remainingIn, remaining, asksNothing, read}
+use Rattle.block.specs.Calls.{Call, reading, Answer, gave, refused, answerTo, after, play, playOpened}
 use Rattle.reading_laws.specs.Calls.{due, moves, expected, handedOut, passedOver, unskipped, afterAll}
 use Rattle.reading_laws.proofs.RowsLeft.{Stands, start, not-wrong}
 use Rattle.reading_laws.proofs.OneCall.{map-drop, rowsAt, Told, one-call}
@@ -33,16 +33,16 @@ use Rattle.reading_laws.proofs.RoomForOne.{Holds, row-given}
 
 -- ---- what is due, for any rows left
 module _ (k : Kind) (rs : List Row) where
-  -- the rows that an answer gives are the first that are left
+  -- the rows that an answer gives are the first behind those that it passes over
   abbrev pub Front : Answer → Type 0
-  Front (passed m) = m ≤ length rs
-  Front (gave gs) = (gs ≡ take (length gs) rs) × (length gs ≤ length rs)
+  Front (gave skip gs) = (gs ≡ take (length gs) (drop skip rs)) × (skip + length gs ≤ length rs)
   Front (refused x) = (x ≡ 4) ⊎ ((x ≡ 6) ⊎ (x ≡ 7))
 
-  taken : (m : ℕ) → Front (gave (take m rs))
-  taken m =
-      let h : length (take m rs) ≤ length rs = rw (length-take m rs) (min-le-right m (length rs)) in
-      (whole m rs, h)
+  taken : (skip m : ℕ) → skip ≤ length rs → Front (gave skip (take m (drop skip rs)))
+  taken skip m l =
+      let h : length (take m (drop skip rs)) ≤ length (drop skip rs) = rw (length-take m (drop skip rs)) (min-le-right m (length (drop skip rs))) in
+      let d = length-drop skip rs in
+      (whole m (drop skip rs), omega arith)
     where
       whole : (j : ℕ) (l : List Row) → take j l ≡ take (length (take j l)) l
       whole zero l = refl
@@ -51,44 +51,48 @@ module _ (k : Kind) (rs : List Row) where
 
   pub due-front : (c : Call) → Front (due k rs c)
   unfolding due
-  due-front (skip m) = go (ltb (length rs) m) refl
+  due-front (reading skip size a) = go (asksNothing skip size) (ltb (length rs) skip) (short k (take size (drop skip rs)) a) refl
     where
-      go : (t : Bool) → ltb (length rs) m ≡ t → Front (cond t (refused TOO_FAR) (passed m))
-      go true h = inr (inr refl)
-      go false h = ltb-false (length rs) m h
-  due-front (batch size a) = go (eqb size 0) (short k (take size rs) a)
-    where
-      go : (s t : Bool) → Front (cond s (refused NO_ROWS) (cond t (refused ROOM) (gave (take size rs))))
-      go true t = inr (inl refl)
-      go false true = inl refl
-      go false false = taken size
+      go : (s t u : Bool) → ltb (length rs) skip ≡ t
+          → Front (cond s (refused NO_ROWS) (cond t (refused TOO_FAR) (cond u (refused ROOM) (gave skip (take size (drop skip rs))))))
+      go true t u h = inr (inl refl)
+      go false true u h = inr (inr refl)
+      go false false true h = inl refl
+      go false false false h = taken skip size (ltb-false (length rs) skip h)
 
   due-within : (c : Call) → moves (due k rs c) ≤ length rs
   unfolding moves
   due-within c = go (due k rs c) (due-front c)
     where
       go : (a : Answer) → Front a → moves a ≤ length rs
-      go (passed m) h = h
-      go (gave gs) h = h .1
+      go (gave skip gs) h = h .1
       go (refused x) h = omega arith
 
-  -- a batch gives no rows only if none are left, and then always, unless it asks for none
-  due-none : (size : ℕ) (a : Areas) → due k rs (batch size a) ≡ gave [] → length rs ≡ 0
+  -- a read of some rows gives none only if nothing is left behind those that it passes over
+  due-none : (skip size : ℕ) (a : Areas) → (size ≡ 0 → ⊥) → due k rs (reading skip size a) ≡ gave skip [] → length rs ≡ skip
   unfolding due
-  due-none size a q = go (eqb size 0) (short k (take size rs) a) refl q
+  due-none skip size a z q = go (asksNothing skip size) (ltb (length rs) skip) (short k (take size (drop skip rs)) a) refl q
     where
       none : (m : ℕ) (l : List Row) → (m ≡ 0 → ⊥) → take m l ≡ [] → length l ≡ 0
       none zero l z p = absurd (z refl)
       none (suc m) [] z p = refl
       none (suc m) (x ∷ l) z p = absurd (omega (arith, ap length p))
 
-      go : (s t : Bool) → eqb size 0 ≡ s → cond s (refused NO_ROWS) (cond t (refused ROOM) (gave (take size rs))) ≡ gave [] → length rs ≡ 0
-      go true t h p = let z : _≡_ {A = ℕ} 0 1 = cc in absurd (omega arith)
-      go false true h p = let z : _≡_ {A = ℕ} 0 1 = cc in absurd (omega arith)
-      go false false h p = let y : take size rs ≡ [] = cc in none size rs (eqb-false size 0 h) y
+      go : (s t u : Bool) → ltb (length rs) skip ≡ t
+          → cond s (refused NO_ROWS) (cond t (refused TOO_FAR) (cond u (refused ROOM) (gave skip (take size (drop skip rs))))) ≡ gave skip []
+          → length rs ≡ skip
+      go true t u h p = let z : _≡_ {A = ℕ} 0 1 = cc in absurd (omega arith)
+      go false true u h p = let z : _≡_ {A = ℕ} 0 1 = cc in absurd (omega arith)
+      go false false true h p = let z : _≡_ {A = ℕ} 0 1 = cc in absurd (omega arith)
+      go false false false h p =
+          let y : take size (drop skip rs) ≡ [] = cc in
+          let l = none size (drop skip rs) z y in
+          let d = length-drop skip rs in
+          let w = ltb-false (length rs) skip h in
+          omega arith
 
 -- no rows need no room
-none-fits : (k : Kind) (a : Areas) → short k [] a ≡ false
+pub none-fits : (k : Kind) (a : Areas) → short k [] a ≡ false
 unfolding short joined
 none-fits k a = fits (isBytes k)
   where
@@ -101,24 +105,25 @@ none-fits k a = fits (isBytes k)
     fits true = simp (room (a .flags), room (a .ends), room (a .bytes))
     fits false = simp (room (a .flags), room (a .values))
 
-due-at-the-end : (k : Kind) (rs : List Row) (size : ℕ) (a : Areas) → (size ≡ 0 → ⊥) → length rs ≡ 0 → due k rs (batch size a) ≡ gave []
+-- and then always, unless it asks for nothing
+due-at-the-end : (k : Kind) (rs : List Row) (skip size : ℕ) (a : Areas) → asksNothing skip size ≡ false → length rs ≡ skip
+    → due k rs (reading skip size a) ≡ gave skip []
 unfolding due
-due-at-the-end k [] size a z l = rw (take-nil {A = Row} size) (simp (ne-eqb size 0 z, none-fits k a))
-due-at-the-end k (x ∷ rs) size a z l = absurd (omega arith)
+due-at-the-end k rs skip size a z l =
+    let n : drop skip rs ≡ [] = drop-of-length-le rs {i = skip} (omega arith) in
+    rw (z, n, take-nil {A = Row} size) (simp (le-ltb (length rs) skip (omega arith), none-fits k a))
 
 -- ---- what answers come to, one answer more
 in-order-more : (k : Kind) (rs : List Row) (a : Answer) (as′ : List Answer) → Front k rs a
     → handedOut as′ ≡ unskipped (drop (moves a) rs) as′ → handedOut (a ∷ as′) ≡ unskipped rs (a ∷ as′)
 unfolding handedOut unskipped moves
-in-order-more k rs (passed m) as′ f h = h
-in-order-more k rs (gave gs) as′ f h = rw (← f .0, h)
+in-order-more k rs (gave skip gs) as′ f h = rw (← f .0, h)
 in-order-more k rs (refused x) as′ f h = h
 
 counted-more : (a : Answer) (as′ : List Answer)
     → length (handedOut (a ∷ as′)) + passedOver (a ∷ as′) ≡ moves a + (length (handedOut as′) + passedOver as′)
 unfolding handedOut passedOver moves
-counted-more (passed m) as′ = omega arith
-counted-more (gave gs) as′ = simp length-append (omega arith)
+counted-more (gave skip gs) as′ = simp length-append (omega arith)
 counted-more (refused x) as′ = omega arith
 
 pub expected-in-order : (k : Kind) (rs : List Row) (cs : List Call) → handedOut (expected k rs cs) ≡ unskipped rs (expected k rs cs)
@@ -195,13 +200,13 @@ module _ (kind encoding width n : ℕ) (b : List ℕ) where
   unfolding headIn
   head-told k e c = ap (λ (x : Column). readerAt kind encoding width n (length b) (headIn x b)) (sym c)
 
-  -- What any calls are answered. The rows are those of the block; the areas that a batch is lent decide only whether it is refused as 4.
+  -- What any calls are answered. The rows are those of the block; the areas that a read is lent decide only whether it is refused as 4.
   pub any-calls : (k : Kind) (e : Encoding) → openNumber kind encoding width n b ≡ 0 → columnOf kind encoding width ≡ Of k e
       → (cs : List Call) → playOpened (opened kind encoding width n b) b cs ≡ expected k (rowsOf k e n b) cs
   unfolding playOpened rowsOf
   any-calls k e z c cs = rw (opens k e z c) (plays k e n b cs _ _ (start k n b kind encoding width e c (sound k e z c)))
 
-  -- All rows of the batches, one after the other, are the rows of the block that no skip passed over, in order, up to the place reached.
+  -- All rows that the reads gave, one after the other, are the rows of the block that none passed over, in order, up to the place reached.
   pub rows-in-order : (k : Kind) (e : Encoding) → openNumber kind encoding width n b ≡ 0 → columnOf kind encoding width ≡ Of k e
       → (cs : List Call)
       → handedOut (playOpened (opened kind encoding width n b) b cs) ≡ unskipped (rowsOf k e n b) (playOpened (opened kind encoding width n b) b cs)
@@ -258,24 +263,23 @@ module _ (kind encoding width n : ℕ) (b : List ℕ) where
           let d = sym (t .answer) ∙ q in
           (subst (λ (a : Answer). Front (found .k) rs a) d (due-front (found .k) rs c), t .stays x d)
 
-      -- After any calls, a batch of one row that is lent a slot of each sort and as many bytes as the block has is never refused.
-      pub one-row-is-given : (a : Areas) → Holds b a → batched (afterAll r b cs) b 1 a .answer .number ≡ 0
+      -- After any calls, a read of the next row that is lent a slot of each sort and as many bytes as the block has is never refused.
+      pub one-row-is-given : (a : Areas) → Holds b a → read (afterAll r b cs) b 0 1 a .answer .number ≡ 0
       one-row-is-given a h = row-given (there .stands) a h .number
 
-      -- After any calls, a batch that is not refused gives no rows only at the end.
-      pub none-only-at-the-end : (size : ℕ) (a : Areas) → answerTo (afterAll r b cs) b (batch size a) ≡ gave [] → remaining (afterAll r b cs) .rows ≡ 0
-      none-only-at-the-end size a q =
-          let f = rowAt (found .k) (found .e) n (headOf (found .e) b) b in
-          let t = told-there (batch size a) in
-          let l = length-map (there .rest) f in
-          rw remains-there (sym l ∙ due-none (found .k) (rowsAt (found .k) (found .e) n b (there .rest)) size a (sym (t .answer) ∙ q))
+      rows-left : length (rowsAt (found .k) (found .e) n b (there .rest)) ≡ remaining (afterAll r b cs) .rows
+      rows-left = rw remains-there (length-map (there .rest) (rowAt (found .k) (found .e) n (headOf (found .e) b) b))
 
-      -- And at the end every batch gives none, unless it asks for none.
-      pub none-at-the-end : (size : ℕ) (a : Areas) → (size ≡ 0 → ⊥) → remaining (afterAll r b cs) .rows ≡ 0
-          → answerTo (afterAll r b cs) b (batch size a) ≡ gave []
-      none-at-the-end size a z q =
-          let f = rowAt (found .k) (found .e) n (headOf (found .e) b) b in
-          let l = length-map (there .rest) f in
-          let y : length (there .rest) ≡ 0 = rw remains-there at q in
-          told-there (batch size a) .answer
-          ∙ due-at-the-end (found .k) (rowsAt (found .k) (found .e) n b (there .rest)) size a z (l ∙ y)
+      -- After any calls, a read of some rows that is not refused gives none only if nothing is left behind those that it passes over.
+      pub none-only-at-the-end : (skip size : ℕ) (a : Areas) → (size ≡ 0 → ⊥)
+          → answerTo (afterAll r b cs) b (reading skip size a) ≡ gave skip [] → remaining (afterAll r b cs) .rows ≡ skip
+      none-only-at-the-end skip size a z q =
+          let t = told-there (reading skip size a) in
+          sym rows-left ∙ due-none (found .k) (rowsAt (found .k) (found .e) n b (there .rest)) skip size a z (sym (t .answer) ∙ q)
+
+      -- And where nothing is left behind them every read gives none, unless it asks for nothing.
+      pub none-at-the-end : (skip size : ℕ) (a : Areas) → asksNothing skip size ≡ false → remaining (afterAll r b cs) .rows ≡ skip
+          → answerTo (afterAll r b cs) b (reading skip size a) ≡ gave skip []
+      none-at-the-end skip size a z q =
+          told-there (reading skip size a) .answer
+          ∙ due-at-the-end (found .k) (rowsAt (found .k) (found .e) n b (there .rest)) skip size a z (rows-left ∙ q)

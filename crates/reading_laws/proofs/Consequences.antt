@@ -5,10 +5,10 @@ use native.Mathlib.Omega.{arith}
 use mathlib.Core.Bool.{Bool, true, false, cond, not, _||_}
 use mathlib.Core.List.{List, [], _∷_, map}
 use mathlib.Core.Logic.{_↔_}
-use mathlib.Core.Path.{_≡_, refl, sym, ap, _∙_}
-use lib.Dec.{eqb}
+use mathlib.Core.Path.{_≡_, refl, sym, ap, subst, _∙_}
+use lib.Dec.{ltb, eqb}
 use lib.ListN.{length, length-map}
-use Rattle.limits.specs.Refusals.{ROOM, NO_ROWS, DISAGREE}
+use Rattle.limits.specs.Refusals.{ROOM, NO_ROWS, TOO_FAR, DISAGREE}
 use Rattle.area.specs.Area.{over}
 use Rattle.encode.specs.declared.Primitive.{Primitive}
 use Rattle.encode.specs.declared.Kind.{Kind}
@@ -29,8 +29,8 @@ use Rattle.block.specs.declared.Given.{Given}
 use Rattle.block.specs.declared.Opened.{Opened}
 use Rattle.block.specs.declared.Opened.the-variants.{Open, Refused}
 use Rattle.block.specs.Reading.{openedBy, opened, wrong, nextSteps, moved}
-use Rattle.block.specs.Reading.{Areas, areas, Batch, isBytes, short, filledIn, givenBytes, refusedBatch, give, batchOf, batchedIn, batched}
-use Rattle.block.specs.Calls.{Call, skip, batch, Answer, gave, refused, handed, columnIn, batchAnswer, answerTo, after, play, playOpened}
+use Rattle.block.specs.Reading.{Areas, areas, Batch, isBytes, short, filledIn, givenBytes, refusedBatch, give, batchOf, upTo, whole, passThen, readIn, asksNothing, read}
+use Rattle.block.specs.Calls.{Call, reading, Answer, gave, refused, handed, columnIn, readAnswer, answerTo, after, play, playOpened}
 use Rattle.soundness_laws.specs.Sound.{Sound}
 use Rattle.soundness_laws.proofs.Opens.{sound-opens, opens-sound}
 use Rattle.reading_laws.specs.Room.{SameRoom, SameBatch, SameCall, SameCalls}
@@ -178,40 +178,61 @@ module _ (r : Reader) (b : List ℕ) (a a′ : Areas) (room : SameRoom a a′) w
       either (Of k e) (allOf (rowGood k e (r .rows) (r .head) b) is) _ (refusedBatch DISAGREE r a) _ (refusedBatch DISAGREE r a′)
       (same-give k e (map (rowAt k e (r .rows) (r .head) b) is) t) (same-refusal (Of k e) DISAGREE)
 
-  same-column : (size : ℕ) (c : Column) → SameBatch c a a′ (batchedIn c r b size a) (batchedIn c r b size a′)
-  unfolding batchedIn
-  same-column size Unknown = same-refusal Unknown DISAGREE
-  same-column size (Of k e) =
-      either (Of k e) (not (eqb (length b) (r .len)) || wrong k e r) (refusedBatch DISAGREE r a) _ (refusedBatch DISAGREE r a′) _ (same-refusal (Of k e) DISAGREE)
-      (same-rows k e (nextSteps e r b (min size (r .rows - r .place))))
+  same-up-to : (k : Kind) (e : Encoding) (size : ℕ) → SameBatch (Of k e) a a′ (upTo k e r b size a) (upTo k e r b size a′)
+  unfolding upTo
+  same-up-to k e size = same-rows k e (nextSteps e r b (min size (r .rows - r .place)))
+
+module _ (r : Reader) (b : List ℕ) (a a′ : Areas) (room : SameRoom a a′) (skip size : ℕ) where
+  -- whole, or a refusal, which writes nothing
+  same-whole : (c : Column) (x x′ : Batch) → SameBatch c a a′ x x′ → SameBatch c a a′ (whole r a x) (whole r a′ x′)
+  unfolding whole
+  same-whole c x x′ s =
+      let m = x .answer .number in
+      subst (λ (j : ℕ). SameBatch c a a′ (cond (eqb m 0) x (refusedBatch m r a)) (cond (eqb j 0) x′ (refusedBatch j r a′)))
+      (ap (λ (g : Given). g .number) (s .answer))
+      (either r b a a′ room c (eqb m 0) x (refusedBatch m r a) x′ (refusedBatch m r a′) s (same-refusal r b a a′ room c m))
+
+  same-passed : (k : Kind) (e : Encoding) (w : Steps) → SameBatch (Of k e) a a′ (passThen k e r b skip size a w) (passThen k e r b skip size a′ w)
+  unfolding passThen
+  same-passed k e stuck = same-refusal r b a a′ room (Of k e) DISAGREE
+  same-passed k e (rows is t) =
+      same-whole (Of k e) (upTo k e (moved r skip t) b size a) (upTo k e (moved r skip t) b size a′) (same-up-to (moved r skip t) b a a′ room k e size)
+
+  same-column : (c : Column) → SameBatch c a a′ (readIn c r b skip size a) (readIn c r b skip size a′)
+  unfolding readIn
+  same-column Unknown = same-refusal r b a a′ room Unknown DISAGREE
+  same-column (Of k e) =
+      either r b a a′ room (Of k e) (not (eqb (length b) (r .len)) || wrong k e r) (refusedBatch DISAGREE r a) _ (refusedBatch DISAGREE r a′) _
+      (same-refusal r b a a′ room (Of k e) DISAGREE)
+      (either r b a a′ room (Of k e) (ltb (r .rows - r .place) skip) (refusedBatch TOO_FAR r a) _ (refusedBatch TOO_FAR r a′) _
+      (same-refusal r b a a′ room (Of k e) TOO_FAR) (same-passed k e (nextSteps e r b skip)))
 
   -- For every record and every block: number, counts, next record and all that is written are the same, whatever the lent areas held before.
-  pub batch-depends-on-the-block-alone : (size : ℕ) → SameBatch (columnIn r) a a′ (batched r b size a) (batched r b size a′)
-  unfolding batched
-  batch-depends-on-the-block-alone size =
-      either (columnIn r) (eqb size 0) (refusedBatch NO_ROWS r a) _ (refusedBatch NO_ROWS r a′) _ (same-refusal (columnIn r) NO_ROWS) (same-column size (columnIn r))
+  pub read-depends-on-the-block-alone : SameBatch (columnIn r) a a′ (read r b skip size a) (read r b skip size a′)
+  unfolding read
+  read-depends-on-the-block-alone =
+      either r b a a′ room (columnIn r) (asksNothing skip size) (refusedBatch NO_ROWS r a) _ (refusedBatch NO_ROWS r a′) _
+      (same-refusal r b a a′ room (columnIn r) NO_ROWS) (same-column (columnIn r))
 
-  same-answer : (size : ℕ) → answerTo r b (batch size a) ≡ answerTo r b (batch size a′)
-  unfolding answerTo batchAnswer
-  same-answer size =
-      let s = batch-depends-on-the-block-alone size in
-      ap (λ (rs : List Row). cond (eqb (batched r b size a .answer .number) 0) (gave rs) (refused (batched r b size a .answer .number))) (s .read)
-      ∙ ap (λ (e : ℕ). cond (eqb e 0) (gave (handed (columnIn r) (batched r b size a′ .answer .rows) (batched r b size a′ .areas))) (refused e))
-      (ap (λ (g : Given). g .number) (s .answer))
+  same-answer : answerTo r b (reading skip size a) ≡ answerTo r b (reading skip size a′)
+  unfolding answerTo readAnswer
+  same-answer =
+      let s = read-depends-on-the-block-alone in
+      let x = read r b skip size a in
+      let x′ = read r b skip size a′ in
+      ap (λ (rs : List Row). cond (eqb (x .answer .number) 0) (gave skip rs) (refused (x .answer .number))) (s .read)
+      ∙ ap (λ (e : ℕ). cond (eqb e 0) (gave skip (handed (columnIn r) (x′ .answer .rows) (x′ .areas))) (refused e)) (ap (λ (g : Given). g .number) (s .answer))
 
-  same-after : (size : ℕ) → after r b (batch size a) ≡ after r b (batch size a′)
+  same-after : after r b (reading skip size a) ≡ after r b (reading skip size a′)
   unfolding after
-  same-after size = ap (λ (g : Given). g .reader) (batch-depends-on-the-block-alone size .answer)
+  same-after = ap (λ (g : Given). g .reader) (read-depends-on-the-block-alone .answer)
 
 -- ---- and so do the answers to any calls
 module _ (b : List ℕ) where
   one-answer : (r : Reader) (c d : Call) → SameCall c d → (answerTo r b c ≡ answerTo r b d) × (after r b c ≡ after r b d)
-  one-answer r (skip n) (skip m) h = (ap (λ (i : ℕ). answerTo r b (skip i)) h, ap (λ (i : ℕ). after r b (skip i)) h)
-  one-answer r (skip n) (batch size a) h = absurd h
-  one-answer r (batch size a) (skip n) h = absurd h
-  one-answer r (batch size a) (batch size′ a′) h = (
-    same-answer r b a a′ (h .1) size ∙ ap (λ (i : ℕ). answerTo r b (batch i a′)) (h .0),
-    same-after r b a a′ (h .1) size ∙ ap (λ (i : ℕ). after r b (batch i a′)) (h .0),
+  one-answer r (reading skip size a) (reading skip′ size′ a′) h = (
+    same-answer r b a a′ (h .2) skip size ∙ rw (h .0, h .1),
+    same-after r b a a′ (h .2) skip size ∙ rw (h .0, h .1),
   )
 
   -- Any calls on any record: the answers, rows among them, come from the record, the block and the room lent, and from nothing else in memory.

@@ -1,4 +1,4 @@
--- What a batch wrote, read back from its areas, is the rows that it gave. Assumes nothing.
+-- What a read wrote, read back from its areas, is the rows that it gave. Assumes nothing.
 use Prim.Native.Nat.{ℕ, zero, suc, _+_, _-_, _<_}
 use native.Mathlib.Nat.{zero-add}
 use native.Mathlib.Omega.{arith}

@@ -4,6 +4,7 @@ pub mod RowsLeft
 pub mod OneCall
 pub mod RoomForOne
 pub mod Calls
+pub mod InTwo
 pub mod Refusing
 pub mod Consequences
 pub mod TextRows

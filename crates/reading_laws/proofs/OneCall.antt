@@ -5,26 +5,23 @@ use native.Mathlib.Omega.{arith}
 use mathlib.Core.Bool.{Bool, true, false, cond}
 use mathlib.Core.List.{List, [], _∷_, map}
 use mathlib.Core.Logic.{⊎-elim}
-use mathlib.Core.Path.{_≡_, refl, sym, ap, _∙_}
-use lib.Dec.{eqb}
+use mathlib.Core.Path.{_≡_, refl, sym, ap, subst, _∙_}
 use lib.ListN.{length, take, drop, length-map}
-use lib.Seq.{take-all, length-take-le}
-use borrow.Author.Tests.{lt-ltb, le-ltb, eq-eqb, ne-eqb, eqb-true, eqb-false}
+use lib.Seq.{take-all, drop-drop, length-take-le}
+use borrow.Author.Tests.{lt-ltb, le-ltb, eq-eqb}
 use Rattle.limits.specs.Refusals.{ROOM, NO_ROWS, TOO_FAR}
 use Rattle.encode.specs.declared.Kind.{Kind}
 use Rattle.area.proofs.Laws.{lt-or-ge}
-use Rattle.plain.specs.Rows.{Row, bytesIn}
-use Rattle.plain.specs.Plain.{joined}
+use Rattle.plain.specs.Rows.{Row}
 use Rattle.rle.specs.Stepping.{rows}
 use Rattle.format.specs.declared.Encoding.{Encoding}
 use Rattle.format.specs.declared.Column.the-variants.{Of}
 use Rattle.format.specs.Opening.{headOf, rowAt}
 use Rattle.anatomy.specs.Tests.{rowGood}
 use Rattle.block.specs.declared.Reader.{Reader}
-use Rattle.block.specs.declared.Skipped.{Skipped}
-use Rattle.block.specs.Reading.{nextSteps, moved, skipTo, skipOver, skippedIn, skipped}
-use Rattle.block.specs.Reading.{Areas, Batch, isBytes, short, filledIn, givenBytes, refusedBatch, give, batchOf, batchedIn, batched}
-use Rattle.block.specs.Calls.{Call, skip, batch, Answer, passed, gave, refused, handed, skipAnswer, batchAnswer, answerTo, after}
+use Rattle.block.specs.Reading.{nextSteps, moved}
+use Rattle.block.specs.Reading.{Areas, Batch, short, filledIn, givenBytes, refusedBatch, give, batchOf, upTo, whole, passThen, readIn, asksNothing, read}
+use Rattle.block.specs.Calls.{Call, reading, Answer, gave, refused, handed, readAnswer, answerTo, after}
 use Rattle.reading_laws.specs.Calls.{due, moves}
 use Rattle.reading_laws.proofs.HandedRows.{read-back, rows-handed}
 use Rattle.reading_laws.proofs.RowsLeft.{Stands, Later, later, not-wrong, take-good}
@@ -70,112 +67,132 @@ module _ {k : Kind} {e : Encoding} {n : ℕ} {b : List ℕ} {r : Reader} {is : L
       → ((x : ℕ) → a ≡ refused x → ⊥) → Stands k e n b r′ (drop (moves a) is) → Told k e n b r is c
   told-done c a r′ p q d z s = record { answer = p ∙ sym d; stands = rw (q, d) s; stays = λ x h. absurd (z x (sym d ∙ h)) }
 
-  -- ---- skip
-  skip-far : (m : ℕ) → length is < m → skipped r b m ≡ skipTo TOO_FAR r
-  unfolding skipped skippedIn
-  skip-far m h =
-      rw (g .column)
-      (simp (eq-eqb (length b) (r .len) (g .long), not-wrong k e r (g .right), lt-ltb (r .rows - r .place) m (omega (arith, g .count))))
-
-  skip-done : (m : ℕ) (h : m ≤ length is) → skipped r b m ≡ skipTo 0 (moved r m (later g m h .mid))
-  unfolding skipped skippedIn skipOver
-  skip-done m h =
-      rw (g .column, later g m h .first)
-      (simp (eq-eqb (length b) (r .len) (g .long), not-wrong k e r (g .right), le-ltb (r .rows - r .place) m (omega (arith, g .count))))
-
   left-long : length left ≡ length is
   left-long = length-map is (rowAt k e n (headOf e b) b)
 
-  told-skip : (m : ℕ) → Told k e n b r is (skip m)
-  unfolding answerTo after skipAnswer due moves
-  told-skip m = ⊎-elim
-      (λ (h : length is < m).
-      let l : length left < m = omega (arith, left-long) in
-      let p = skip-far m h in
-      told-refused (skip m) TOO_FAR (rw p) (ap (λ (s : Skipped). s .reader) p) (simp (lt-ltb (length left) m l)))
-      (λ (h : m ≤ length is).
-      let l : m ≤ length left = omega (arith, left-long) in
-      let p = skip-done m h in
-      told-done (skip m) (passed m) (moved r m (later g m h .mid)) (rw p) (ap (λ (s : Skipped). s .reader) p) (simp (le-ltb (length left) m l))
-      (λ x q. let z : _≡_ {A = ℕ} 0 1 = cc in omega arith) (later g m h .stands))
-      (lt-or-ge (length is) m)
-
-  -- ---- batch
-  told-none : (size : ℕ) (a : Areas) → size ≡ 0 → Told k e n b r is (batch size a)
-  unfolding answerTo after batchAnswer due batched
-  told-none size a z =
-      let t = eq-eqb size 0 z in
-      let p : batched r b size a ≡ refusedBatch NO_ROWS r a = simp t in
-      told-refused (batch size a) NO_ROWS (rw p) (ap (λ (x : Batch). x .answer .reader) p) (simp t)
-
-  module _ (size : ℕ) (a : Areas) (z : size ≡ 0 → ⊥) where
+  -- ---- up to so many of the rows left
+  module _ (size : ℕ) (a : Areas) where
     abbrev most : ℕ
     most = min size (length is)
 
-    step : Later k e n b r is most
+    pub step : Later k e n b r is most
     step = later g most (min-le-right size (length is))
 
-    abbrev given : List Row
+    abbrev pub given : List Row
     given = rowsAt k e n b (take most is)
 
-    given-is : take size left ≡ given
+    pub given-is : take size left ≡ given
     given-is = sym (map-take (rowAt k e n (headOf e b) b) size is) ∙ ap (rowsAt k e n b) (sym (take-least size is))
 
-    given-long : length given ≡ most
+    pub given-long : length given ≡ most
     given-long = length-map (take most is) (rowAt k e n (headOf e b) b) ∙ length-take-le most is (min-le-right size (length is))
 
-    batch-enters : batched r b size a ≡ batchOf k e r b a (nextSteps e r b (min size (r .rows - r .place)))
-    unfolding batched batchedIn
-    batch-enters =
-        rw (g .column) (simp (ne-eqb size 0 z, eq-eqb (length b) (r .len) (g .long), not-wrong k e r (g .right)))
-
-    batch-steps : nextSteps e r b (min size (r .rows - r .place)) ≡ rows (take most is) (step .mid)
-    batch-steps = ap (λ (j : ℕ). nextSteps e r b (min size j)) (sym (g .count)) ∙ step .first
+    steps-are : nextSteps e r b (min size (r .rows - r .place)) ≡ rows (take most is) (step .mid)
+    steps-are = ap (λ (j : ℕ). nextSteps e r b (min size j)) (sym (g .count)) ∙ step .first
 
     given-same : map (rowAt k e (r .rows) (r .head) b) (take most is) ≡ given
     given-same = rw (g .size, g .head)
 
-    batch-gives : batched r b size a ≡ give k r given (step .mid) a
-    unfolding batchOf
-    batch-gives =
-        batch-enters
-        ∙ ap (batchOf k e r b a) batch-steps
+    pub gives : upTo k e r b size a ≡ give k r given (step .mid) a
+    unfolding upTo batchOf
+    gives =
+        ap (batchOf k e r b a) steps-are
         ∙ rw (take-good (rowGood k e (r .rows) (r .head) b) most is (g .good), given-same)
 
-    told-some : Told k e n b r is (batch size a)
-    unfolding answerTo after batchAnswer due moves give
-    told-some = go (short k given a) refl
-      where
-        done : Batch
-        done = record {
-          answer = record {
-            number = 0;
-            rows = length given;
-            bytes = givenBytes k given;
-            reader = moved r (length given) (step .mid);
-          };
-          areas = filledIn k given a;
-        }
+  -- ---- a read
+  told-nothing : (skip size : ℕ) (a : Areas) → asksNothing skip size ≡ true → Told k e n b r is (reading skip size a)
+  unfolding answerTo after readAnswer due read
+  told-nothing skip size a z =
+      let p : read r b skip size a ≡ refusedBatch NO_ROWS r a = rw z in
+      told-refused (reading skip size a) NO_ROWS (rw p) (ap (λ (x : Batch). x .answer .reader) p) (rw z)
 
-        go : (t : Bool) → short k given a ≡ t → Told k e n b r is (batch size a)
-        go true s =
-            let p : batched r b size a ≡ refusedBatch ROOM r a = batch-gives ∙ simp s in
-            told-refused (batch size a) ROOM (rw p) (ap (λ (x : Batch). x .answer .reader) p) (rw given-is (simp (ne-eqb size 0 z, s)))
-        go false s =
-            let p : batched r b size a ≡ done = batch-gives ∙ simp s in
-            let h : handed (Of k e) (length given) (filledIn k given a) ≡ given =
-            read-back k e given a ∙ rows-handed k n (headOf e b) b e (take most is) in
-            told-done (batch size a) (gave given) (moved r (length given) (step .mid))
-            (rw (p, g .column) (ap gave h))
-            (ap (λ (x : Batch). x .answer .reader) p)
-            (rw given-is (simp (ne-eqb size 0 z, s)))
-            (λ x q. let y : _≡_ {A = ℕ} 0 1 = cc in omega arith)
-            (rw given-long (step .stands))
+  module _ (skip size : ℕ) (a : Areas) (some : asksNothing skip size ≡ false) where
+    read-far : length is < skip → read r b skip size a ≡ refusedBatch TOO_FAR r a
+    unfolding read readIn
+    read-far h =
+        rw (some, g .column)
+        (simp (eq-eqb (length b) (r .len) (g .long), not-wrong k e r (g .right), lt-ltb (r .rows - r .place) skip (omega (arith, g .count))))
 
-  pub one-call : (c : Call) → Told k e n b r is c
-  one-call (skip m) = told-skip m
-  one-call (batch size a) = go (eqb size 0) refl
+    told-far : length is < skip → Told k e n b r is (reading skip size a)
+    unfolding answerTo after readAnswer due
+    told-far h =
+        let l : length left < skip = omega (arith, left-long) in
+        let p = read-far h in
+        told-refused (reading skip size a) TOO_FAR (rw p) (ap (λ (x : Batch). x .answer .reader) p) (rw some (simp (lt-ltb (length left) skip l)))
+
+    read-behind : (h : skip ≤ length is) → read r b skip size a ≡ whole r a (upTo k e (moved r skip (later g skip h .mid)) b size a)
+    unfolding read readIn passThen
+    read-behind h =
+        rw (some, g .column, later g skip h .first)
+        (simp (eq-eqb (length b) (r .len) (g .long), not-wrong k e r (g .right), le-ltb (r .rows - r .place) skip (omega (arith, g .count))))
+
+module _ {k : Kind} {e : Encoding} {n : ℕ} {b : List ℕ} {r : Reader} {is : List ℕ} (g : Stands k e n b r is) (skip size : ℕ) (a : Areas)
+    (some : asksNothing skip size ≡ false) (h : skip ≤ length is) where
+  abbrev behind : Stands k e n b (moved r skip (later g skip h .mid)) (drop skip is)
+  behind = later g skip h .stands
+
+  -- the rows given, which are those behind the rows passed over
+  abbrev handed-out : List Row
+  handed-out = given behind size a
+
+  handed-is : take size (drop skip (left g)) ≡ handed-out
+  handed-is = ap (take size) (sym (map-drop (rowAt k e n (headOf e b) b) skip is)) ∙ given-is behind size a
+
+  read-gives : read r b skip size a ≡ whole r a (give k (moved r skip (later g skip h .mid)) handed-out (step behind size a .mid) a)
+  read-gives = read-behind g skip size a some h ∙ ap (whole r a) (gives behind size a)
+
+  due-is : due k (left g) (reading skip size a) ≡ cond (short k handed-out a) (refused ROOM) (gave skip handed-out)
+  unfolding due
+  due-is =
+      let l : skip ≤ length (left g) = omega (arith, left-long g) in
+      rw (some, handed-is) (simp (le-ltb (length (left g)) skip l))
+
+  abbrev done : Batch
+  done = record {
+    answer = record {
+      number = 0;
+      rows = length handed-out;
+      bytes = givenBytes k handed-out;
+      reader = moved (moved r skip (later g skip h .mid)) (length handed-out) (step behind size a .mid);
+    };
+    areas = filledIn k handed-out a;
+  }
+
+  told-short : short k handed-out a ≡ true → Told k e n b r is (reading skip size a)
+  unfolding answerTo after readAnswer give whole
+  told-short s =
+      let p : read r b skip size a ≡ refusedBatch ROOM r a = read-gives ∙ simp s in
+      told-refused g (reading skip size a) ROOM (rw p) (ap (λ (x : Batch). x .answer .reader) p) (due-is ∙ rw s)
+
+  told-given : short k handed-out a ≡ false → Told k e n b r is (reading skip size a)
+  unfolding answerTo after readAnswer moves give whole
+  told-given s =
+      let p : read r b skip size a ≡ done = read-gives ∙ simp s in
+      let q : handed (Of k e) (length handed-out) (filledIn k handed-out a) ≡ handed-out =
+      read-back k e handed-out a ∙ rows-handed k n (headOf e b) b e (take (min size (length (drop skip is))) (drop skip is)) in
+      told-done g (reading skip size a) (gave skip handed-out) (done .answer .reader)
+      (rw (p, g .column) (ap (gave skip) q))
+      (ap (λ (x : Batch). x .answer .reader) p)
+      (due-is ∙ rw s)
+      (λ x y. let z : _≡_ {A = ℕ} 0 1 = cc in omega arith)
+      (subst (λ (js : List ℕ). Stands k e n b (done .answer .reader) js) (drop-drop (length handed-out) skip is) stands-there)
     where
-      go : (t : Bool) → eqb size 0 ≡ t → Told k e n b r is (batch size a)
-      go true q = told-none size a (eqb-true size 0 q)
-      go false q = told-some size a (eqb-false size 0 q)
+      stands-there : Stands k e n b (done .answer .reader) (drop (length handed-out) (drop skip is))
+      stands-there = rw (given-long behind size a) (step behind size a .stands)
+
+  told-behind : Told k e n b r is (reading skip size a)
+  told-behind = go (short k handed-out a) refl
+    where
+      go : (t : Bool) → short k handed-out a ≡ t → Told k e n b r is (reading skip size a)
+      go true s = told-short s
+      go false s = told-given s
+
+pub one-call : {k : Kind} {e : Encoding} {n : ℕ} {b : List ℕ} {r : Reader} {is : List ℕ} → Stands k e n b r is → (c : Call) → Told k e n b r is c
+one-call {k} {e} {n} {b} {r} {is} g (reading skip size a) = go (asksNothing skip size) refl
+  where
+    go : (t : Bool) → asksNothing skip size ≡ t → Told k e n b r is (reading skip size a)
+    go true z = told-nothing g skip size a z
+    go false z = ⊎-elim
+        (λ (h : length is < skip). told-far g skip size a z h)
+        (λ (h : skip ≤ length is). told-behind g skip size a z h)
+        (lt-or-ge (length is) skip)

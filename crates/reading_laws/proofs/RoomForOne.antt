@@ -1,16 +1,15 @@
--- A row has no more bytes than its block. So a batch of one row that is lent a slot of each sort and as many bytes as the block has is never refused.
+-- A row has no more bytes than its block. So a read of the next row that is lent a slot of each sort and as many bytes as the block has is never refused.
 -- Assumes nothing.
 use Prim.Native.Nat.{ℕ, zero, suc, _+_, _-_, _*_, _≤_}
 use native.Mathlib.Nat.{min-le-left, min-le-right}
 use native.Mathlib.Omega.{arith}
 use mathlib.Core.Bool.{Bool, true, false, cond, _||_}
 use mathlib.Core.List.{List, [], _∷_, append-nil}
-use mathlib.Core.Path.{_≡_, refl, ap, _∙_}
+use mathlib.Core.Path.{_≡_, refl, _∙_}
 use lib.Dec.{ltb, eqb}
 use lib.ListN.{length, take, drop, length-take, length-drop}
 use borrow.Author.Tests.{le-ltb, eqb-true}
 use Rattle.limits.specs.Limits.{MOST_GIVEN}
-use Rattle.limits.specs.Refusals.{ROOM}
 use Rattle.encode.specs.declared.Kind.{Kind}
 use Rattle.encode.specs.declared.Kind.the-variants.{Fixed, Char, Blob}
 use Rattle.plain.specs.Rows.{Row, null, bytesIn}
@@ -23,8 +22,8 @@ use Rattle.format.specs.declared.Encoding.the-variants.{Plain, Nullable, RunLen
 use Rattle.format.specs.declared.Head.{Head}
 use Rattle.format.specs.Opening.{headOf, rowAt}
 use Rattle.block.specs.declared.Reader.{Reader}
-use Rattle.block.specs.Reading.{Areas, Batch, isBytes, short, batched}
-use Rattle.block.specs.Calls.{gave, refused, batch, handed, columnIn, batchAnswer, answerTo, after}
+use Rattle.block.specs.Reading.{Areas, Batch, isBytes, short, read}
+use Rattle.block.specs.Calls.{gave, refused, reading, handed, columnIn, readAnswer, answerTo, after}
 use Rattle.reading_laws.specs.Calls.{due, moves}
 use Rattle.reading_laws.proofs.RowsLeft.{Stands}
 use Rattle.reading_laws.proofs.OneCall.{rowsAt, one-call}
@@ -119,25 +118,25 @@ first-bytes k e n b [] = omega arith
 first-bytes k e n b (i ∷ is) = rw append-nil (row-bytes k e n (headOf e b) b i)
 
 -- ---- the call
-given-told : (t : Bool) (x : ℕ) (rs ys : List Row) → cond t (gave rs) (refused x) ≡ gave ys → t ≡ true
+given-told : (t : Bool) (x : ℕ) (rs ys : List Row) → cond t (gave 0 rs) (refused x) ≡ gave 0 ys → t ≡ true
 given-told true x rs ys q = refl
 given-told false x rs ys q = let z : _≡_ {A = ℕ} 0 1 = cc in absurd (omega arith)
 
 pub record Given (k : Kind) (e : Encoding) (n : ℕ) (b : List ℕ) (r : Reader) (a : Areas) : Type 0 where
-  pub number : batched r b 1 a .answer .number ≡ 0
+  pub number : read r b 0 1 a .answer .number ≡ 0
   pub rest : List ℕ
-  pub stands : Stands k e n b (batched r b 1 a .answer .reader) rest
+  pub stands : Stands k e n b (read r b 0 1 a .answer .reader) rest
 
 -- the next row, or none at the end, is given, and the reader stands well after it
 pub row-given : {k : Kind} {e : Encoding} {n : ℕ} {b : List ℕ} {r : Reader} {is : List ℕ} → Stands k e n b r is
     → (a : Areas) → Holds b a → Given k e n b r a
-unfolding answerTo batchAnswer after due
+unfolding answerTo readAnswer after due
 row-given {k} {e} {n} {b} {r} {is} g a h =
-    let t = one-call g (batch 1 a) in
-    let x : Batch = batched r b 1 a in
+    let t = one-call g (reading 0 1 a) in
+    let x : Batch = read r b 0 1 a in
     record {
       number = eqb-true (x .answer .number) 0 (given-told (eqb (x .answer .number) 0) (x .answer .number) (handed (columnIn r) (x .answer .rows) (x .areas)) rs (t .answer ∙ due-given));
-      rest = drop (moves (due k (rowsAt k e n b is) (batch 1 a))) is;
+      rest = drop (moves (due k (rowsAt k e n b is) (reading 0 1 a))) is;
       stands = t .stands;
     }
   where
@@ -157,5 +156,5 @@ row-given {k} {e} {n} {b} {r} {is} g a h =
         let c = h .bytes in
         long-enough k rs a (omega arith) (omega arith) (omega arith) (omega arith) (omega arith)
 
-    due-given : due k (rowsAt k e n b is) (batch 1 a) ≡ gave rs
-    due-given = ap (λ (t : Bool). cond t (refused ROOM) (gave rs)) fits
+    due-given : due k (rowsAt k e n b is) (reading 0 1 a) ≡ gave 0 rs
+    due-given = simp (le-ltb (length (rowsAt k e n b is)) 0 (omega arith), fits)

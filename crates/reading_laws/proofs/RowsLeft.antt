@@ -6,7 +6,6 @@ use mathlib.Core.Bool.{Bool, true, false, not, _&&_}
 use mathlib.Core.List.{List, [], _∷_, _++_}
 use mathlib.Core.Logic.{_⊎_, ⊎-elim}
 use mathlib.Core.Path.{_≡_, refl, sym, ap, _∙_}
-use lib.Dec.{ltb}
 use lib.ListN.{length, take, drop, length-drop}
 use lib.Seq.{take-at, drop-at, length-take-le}
 use borrow.Author.Tests.{lt-ltb, le-ltb, eq-eqb}
@@ -21,7 +20,7 @@ use Rattle.rle.specs.declared.Spot.{Spot}
 use Rattle.rle.specs.declared.Walked.the-variants.{Total}
 use Rattle.rle.specs.RunLength.{innerPart, walked, runNumbers, countsPart}
 use Rattle.rle.specs.Stepping.{spot, rows, stepsFrom}
-use Rattle.rle.proofs.Steps.{Below, Parts, steps-parts, steps-length, steps-below, steps-end}
+use Rattle.rle.proofs.Steps.{Below, Parts, steps-parts, steps-length, steps-below}
 use Rattle.rle.proofs.Whole.{whole-steps}
 use Rattle.dict.specs.Dictionary.{i32, keyPart, entriesPart, slotAt, entryGood}
 use Rattle.dict.proofs.Slots.{known-at}
@@ -36,10 +35,10 @@ use Rattle.format.proofs.Sound.{plain-sound, nullable-sound, run-length-sound, 
 use Rattle.block.specs.declared.Reader.{Reader}
 use Rattle.encode.proofs.Bools.{both}
 use Rattle.anatomy.specs.Tests.{noRuns, runsOutside, partOutside, runsWrong, headWrong, rowGood}
-use Rattle.anatomy.proofs.RightNumbers.{runs-of, null-runs-of, key-runs-of, entries-few}
 use Rattle.block.specs.Reading.{readerAt, wrong, nextSteps, moved}
 use Rattle.block.specs.Calls.{columnIn}
 use Rattle.block.proofs.RecordTests.{RightRecord}
+use Rattle.block.proofs.MovedReader.{runs-kept, moved-right}
 
 -- ---- rule 14 and rule 15 of some rows
 module _ (good : ℕ → Bool) where
@@ -92,12 +91,11 @@ not-wrong k e r w =
     simp (le-ltb MOST_BYTES (r .len) (v .size), le-ltb (mostRows e) (r .rows) (v .rows), le-ltb (r .rows) (r .place) (w .place), v .head, v .parts)
 
 -- ---- some of the rows left, and the reader after them
-record Next (k : Kind) (e : Encoding) (r : Reader) (b : List ℕ) (m : ℕ) (is : List ℕ) : Type 0 where
+record Next (e : Encoding) (r : Reader) (b : List ℕ) (m : ℕ) (is : List ℕ) : Type 0 where
   mid : Spot
   first : nextSteps e r b m ≡ rows (take m is) mid
   end : Spot
   rest : nextSteps e (moved r m mid) b (length (drop m is)) ≡ rows (drop m is) end
-  head : headWrong e (r .head) (mid .run) ≡ false
 
 module _ (runs : ℕ) (counts : List ℕ) (s : Spot) (m : ℕ) (is : List ℕ) (t : Spot) (h : m ≤ length is)
     (q : stepsFrom runs counts (length is) s ≡ rows is t) where
@@ -109,13 +107,6 @@ module _ (runs : ℕ) (counts : List ℕ) (s : Spot) (m : ℕ) (is : List ℕ) (
   coded-rest : stepsFrom runs counts (length (drop m is)) (coded .mid) ≡ rows (drop m is) t
   coded-rest = rw (length-drop m is) (coded .rest)
 
-  coded-run : s .run ≤ runs → coded .mid .run ≤ runs
-  coded-run l = steps-end runs counts m s (coded .first) l
-
-runs-kept : (h : Head) (run : ℕ) → h .runs ≤ MOST_ITEMS → run ≤ h .runs → runsWrong h run ≡ false
-unfolding runsWrong
-runs-kept h run m l = simp (le-ltb MOST_ITEMS (h .runs) m, le-ltb (h .runs) run l)
-
 alone : (r : Reader) (m : ℕ) (is : List ℕ) (t : Spot) → m ≤ length is → rows (places (length is) (r .place)) (r .spot) ≡ rows is t
     → (places m (r .place) ≡ take m is) × (places (length (drop m is)) (r .place + m) ≡ drop m is)
 alone r m is t h q =
@@ -123,47 +114,35 @@ alone r m is t h q =
     let p = places-parts (length is) m (r .place) h in
     (sym (p .0) ∙ ap (take m) e, rw (length-drop m is) (sym (p .1) ∙ ap (drop m) e))
 
-module _ (k : Kind) (r : Reader) (b : List ℕ) (m : ℕ) (is : List ℕ) (t : Spot) (h : m ≤ length is) where
-  next : (e : Encoding) → RightRecord k e r → nextSteps e r b (length is) ≡ rows is t → Next k e r b m is
-  unfolding nextSteps headWrong
-  next Plain w q =
-      let p = alone r m is t h q in
-      record { mid = r .spot; first = rw (p .0); end = r .spot; rest = rw (p .1); head = refl }
-  next Nullable w q =
-      let p = alone r m is t h q in
-      record { mid = r .spot; first = rw (p .0); end = r .spot; rest = rw (p .1); head = refl }
-  next RunLength w q =
-      let counts = countsIn RunLength (r .head) b in
-      let o = runs-of k (r .rows) (r .len) (r .head) (r .spot .run) (w .numbers) in
+module _ (r : Reader) (b : List ℕ) (m : ℕ) (is : List ℕ) (t : Spot) (h : m ≤ length is) where
+  -- by their runs
+  next-coded : (e : Encoding) → ((j : ℕ) (x : Reader) → nextSteps e x b j ≡ stepsFrom (x .head .runs) (countsIn e (x .head) b) j (x .spot))
+      → nextSteps e r b (length is) ≡ rows is t → Next e r b m is
+  next-coded e by q =
+      let p = sym (by (length is) r) ∙ q in
+      let counts = countsIn e (r .head) b in
+      let c = coded (r .head .runs) counts (r .spot) m is t h p in
       record {
-        mid = coded (r .head .runs) counts (r .spot) m is t h q .mid;
-        first = coded (r .head .runs) counts (r .spot) m is t h q .first;
+        mid = c .mid;
+        first = by m r ∙ c .first;
         end = t;
-        rest = coded-rest (r .head .runs) counts (r .spot) m is t h q;
-        head = runs-kept (r .head) _ (o .runs) (coded-run (r .head .runs) counts (r .spot) m is t h q (o .inside));
+        rest = by (length (drop m is)) (moved r m (c .mid)) ∙ coded-rest (r .head .runs) counts (r .spot) m is t h p;
       }
-  next RunLengthNullable w q =
-      let counts = countsIn RunLengthNullable (r .head) b in
-      let o = null-runs-of k (r .rows) (r .len) (r .head) (r .spot .run) (w .numbers) in
-      record {
-        mid = coded (r .head .runs) counts (r .spot) m is t h q .mid;
-        first = coded (r .head .runs) counts (r .spot) m is t h q .first;
-        end = t;
-        rest = coded-rest (r .head .runs) counts (r .spot) m is t h q;
-        head = runs-kept (r .head) _ (o .runs) (coded-run (r .head .runs) counts (r .spot) m is t h q (o .inside));
-      }
-  next Dictionary w q =
-      let counts = countsIn Dictionary (r .head) b in
-      let o = key-runs-of k (r .rows) (r .len) (r .head) (r .spot .run) (w .numbers) in
-      let s = coded (r .head .runs) counts (r .spot) m is t h q .mid in
-      let l = runs-kept (r .head) _ (o .runs) (coded-run (r .head .runs) counts (r .spot) m is t h q (o .inside)) in
-      record {
-        mid = s;
-        first = coded (r .head .runs) counts (r .spot) m is t h q .first;
-        end = t;
-        rest = coded-rest (r .head .runs) counts (r .spot) m is t h q;
-        head = simp (l, le-ltb MOST_ENTRIES (r .head .entries) (entries-few k (r .rows) (r .len) (r .head) (r .spot .run) (w .numbers)));
-      }
+
+  -- and alone
+  next-alone : (e : Encoding) → ((j : ℕ) (x : Reader) → nextSteps e x b j ≡ rows (places j (x .place)) (x .spot))
+      → nextSteps e r b (length is) ≡ rows is t → Next e r b m is
+  next-alone e by q =
+      let p = alone r m is t h (sym (by (length is) r) ∙ q) in
+      record { mid = r .spot; first = by m r ∙ rw (p .0); end = r .spot; rest = by (length (drop m is)) (moved r m (r .spot)) ∙ rw (p .1) }
+
+  next : (e : Encoding) → nextSteps e r b (length is) ≡ rows is t → Next e r b m is
+  unfolding nextSteps
+  next Plain = next-alone Plain (λ j x. refl)
+  next Nullable = next-alone Nullable (λ j x. refl)
+  next RunLength = next-coded RunLength (λ j x. refl)
+  next RunLengthNullable = next-coded RunLengthNullable (λ j x. refl)
+  next Dictionary = next-coded Dictionary (λ j x. refl)
 
 pub record Later (k : Kind) (e : Encoding) (n : ℕ) (b : List ℕ) (r : Reader) (is : List ℕ) (m : ℕ) : Type 0 where
   pub mid : Spot
@@ -173,7 +152,7 @@ pub record Later (k : Kind) (e : Encoding) (n : ℕ) (b : List ℕ) (r : Reader)
 pub later : {k : Kind} {e : Encoding} {n : ℕ} {b : List ℕ} {r : Reader} {is : List ℕ} → Stands k e n b r is → (m : ℕ) → m ≤ length is
     → Later k e n b r is m
 later {k} {e} {n} {b} {r} {is} g m h =
-    let x = next k r b m is (g .end) h e (g .right) (g .left) in
+    let x = next r b m is (g .end) h e (g .left) in
     let w = g .right in
     record {
       mid = x .mid;
@@ -183,10 +162,7 @@ later {k} {e} {n} {b} {r} {is} g m h =
         size = g .size;
         head = g .head;
         long = g .long;
-        right = record {
-          place = omega (arith, g .count, w .place);
-          numbers = record { size = w .numbers .size; rows = w .numbers .rows; head = x .head; parts = w .numbers .parts };
-        };
+        right = moved-right k r b m e w (omega (arith, g .count)) (x .first);
         end = x .end;
         left = x .rest;
         count = length-drop m is ∙ omega (arith, g .count, w .place);

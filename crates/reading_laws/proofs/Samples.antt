@@ -36,8 +36,8 @@ unfolding Varint.more Varint.countWithin Varint.in32Bits Varint.countOf Varint.c
     Sizes.nullableSize Sizes.runLengthSize Sizes.estimateOf Sizes.nextSize Sizes.fullWith Sizes.plainFull Sizes.nullableFull Sizes.keyTarget
     Sizes.shouldFinish Sizes.storedItems Sizes.storedEntries Sizes.withinLimits Sizes.allFit Sizes.accepted Reading.headIn Reading.openedBy
     Reading.opened Tests.noRuns Tests.runsOutside Tests.partOutside Tests.runsWrong Tests.headWrong Reading.wrong Reading.nextSteps Reading.remainingIn
-    Reading.remaining Reading.skipOver Reading.skippedIn Reading.skipped Tests.rowGood Reading.isBytes Reading.short Reading.filledIn Reading.givenBytes
-    Reading.give Reading.batchOf Reading.batchedIn Reading.batched Calls.startIn Calls.handedRow Calls.handed Calls.skipAnswer Calls.batchAnswer
+    Reading.remaining Tests.rowGood Reading.isBytes Reading.short Reading.filledIn Reading.givenBytes
+    Reading.give Reading.batchOf Reading.upTo Reading.whole Reading.passThen Reading.readIn Reading.read Calls.startIn Calls.handedRow Calls.handed Calls.readAnswer
     Calls.answerTo Calls.after Calls.play Calls.playOpened Kinds.numbered Kinds.kindOf Area.over
 samples-given = (
   (refl, refl, refl, refl),
@@ -77,7 +77,10 @@ samples-given = (
                                     refl,
                                     (
                                       refl,
-                                      tt,
+                                      (
+                                        refl,
+                                        tt,
+                                      ),
                                     ),
                                   ),
                                 ),

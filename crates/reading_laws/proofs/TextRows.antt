@@ -1,11 +1,11 @@
 -- What a sound block of char or string hands out is text: each of its rows is null or text, and so is each row that any calls hand out.
 -- Assumes nothing.
-use Prim.Native.Nat.{ℕ, zero, suc, _+_, _≤_, _<_}
+use Prim.Native.Nat.{ℕ, zero, suc, _≤_, _<_}
 use native.Mathlib.Nat.{zero-add}
 use native.Mathlib.Omega.{arith}
 use mathlib.Core.Bool.{Bool, true, false, cond}
-use mathlib.Core.List.{List, [], _∷_, _++_, map}
-use mathlib.Core.Path.{_≡_, refl, sym, ap, subst, _∙_}
+use mathlib.Core.List.{List, [], _∷_, map}
+use mathlib.Core.Path.{_≡_, sym, ap, subst, _∙_}
 use lib.Dec.{eqb}
 use lib.ListN.{length, take, drop}
 use Rattle.encode.specs.Kinds.{holdsText}
@@ -33,7 +33,7 @@ use Rattle.format.specs.Blocks.{columnOf}
 use Rattle.format.specs.Opening.{headOf, rowAt, countsIn, placesOf, rowsOf, columnNumber, openNumber}
 use Rattle.format.proofs.Sound.{Within, column-sound, plain-sound, nullable-sound, run-length-sound, run-length-nullable-sound, keys-sound}
 use Rattle.block.specs.Reading.{opened}
-use Rattle.block.specs.Calls.{Call, Answer, passed, gave, refused, playOpened}
+use Rattle.block.specs.Calls.{Call, Answer, gave, refused, playOpened}
 use Rattle.reading_laws.specs.Calls.{due, moves, expected, handedOut, NullOrText}
 use Rattle.reading_laws.proofs.RowsLeft.{below-places, run-below, inside-of}
 use Rattle.reading_laws.proofs.Calls.{Front, due-front, any-calls}
@@ -81,8 +81,8 @@ module _ (P : Row → Type 0) where
   -- what is handed out of some rows is among them
   handed-more : (k : Kind) (rs : List Row) (a : Answer) (as′ : List Answer) → Front k rs a → Each P rs → Each P (handedOut as′) → Each P (handedOut (a ∷ as′))
   unfolding handedOut
-  handed-more k rs (passed m) as′ f h g = g
-  handed-more k rs (gave gs) as′ f h g = each-append P gs (handedOut as′) (subst (Each P) (sym (f .0)) (each-take (length gs) rs h)) g
+  handed-more k rs (gave skip gs) as′ f h g =
+      each-append P gs (handedOut as′) (subst (Each P) (sym (f .0)) (each-take (length gs) (drop skip rs) (each-drop skip rs h))) g
   handed-more k rs (refused x) as′ f h g = g
 
   each-handed : (k : Kind) (rs : List Row) (cs : List Call) → Each P rs → Each P (handedOut (expected k rs cs))

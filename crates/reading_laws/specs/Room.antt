@@ -1,4 +1,4 @@
--- Calls that differ in what the lent areas hold and in nothing else, and what it means that two batches come to the same. Assumes nothing.
+-- Calls that differ in what the lent areas hold and in nothing else, and what it means that two reads come to the same. Assumes nothing.
 use Prim.Native.Nat.{ℕ, _≤_}
 use mathlib.Core.List.{List, [], _∷_}
 use mathlib.Core.Path.{_≡_}
@@ -7,7 +7,7 @@ use lib.ListN.{length}
 use Rattle.area.specs.Area.{over}
 use Rattle.format.specs.declared.Column.{Column}
 use Rattle.block.specs.Reading.{Areas, areas, Batch}
-use Rattle.block.specs.Calls.{Call, skip, batch, handed}
+use Rattle.block.specs.Calls.{Call, reading, handed}
 
 -- areas that hold anything, of the same lengths
 pub record SameRoom (a a′ : Areas) : Type 0 where
@@ -16,7 +16,7 @@ pub record SameRoom (a a′ : Areas) : Type 0 where
   pub ends : length (a .ends) ≡ length (a′ .ends)
   pub bytes : length (a .bytes) ≡ length (a′ .bytes)
 
--- Two batches that answer the same and write the same: the same values, flags, ends and bytes from the start of the areas on, no more of them than
+-- Two reads that answer the same and write the same: the same values, flags, ends and bytes from the start of the areas on, no more of them than
 -- the answer tells, and nothing else. So the rows that are read from the areas are the same.
 pub record SameBatch (c : Column) (a a′ : Areas) (x x′ : Batch) : Type 0 where
   pub answer : x .answer ≡ x′ .answer
@@ -34,10 +34,7 @@ pub record SameBatch (c : Column) (a a′ : Areas) (x x′ : Batch) : Type 0 whe
 
 -- the same calls, but for what the lent areas hold
 abbrev pub SameCall : Call → Call → Type 0
-SameCall (skip n) (skip m) = n ≡ m
-SameCall (skip n) (batch size a) = ⊥
-SameCall (batch size a) (skip n) = ⊥
-SameCall (batch size a) (batch size′ a′) = (size ≡ size′) × SameRoom a a′
+SameCall (reading skip size a) (reading skip′ size′ a′) = (skip ≡ skip′) × (size ≡ size′) × SameRoom a a′
 
 abbrev pub SameCalls : List Call → List Call → Type 0
 SameCalls [] [] = Unit

@@ -18,7 +18,7 @@ use Rattle.format.specs.Blocks.{columnOf, blockOf, storedForm}
 use Rattle.format.specs.Opening.{openNumber, rowsOf}
 use Rattle.format.specs.Sizes.{estimateOf}
 use Rattle.block.specs.Reading.{Areas, opened}
-use Rattle.block.specs.Calls.{Call, skip, batch, Answer, passed, gave, refused, playOpened}
+use Rattle.block.specs.Calls.{Call, reading, Answer, gave, refused, playOpened}
 
 -- ---- what a sample says
 -- a kind, an encoding and a width by their numbers, and the pair that they name
@@ -106,6 +106,10 @@ blockD = 0x61 ∷ 0x00 ∷ 0x00 ∷ 0x61 ∷ 0x62 ∷ 0x63 ∷ 0x78 ∷ 0x00 ∷
 abbrev room : Areas
 room = record { values = replicate 5 (pos 9); flags = replicate 5 9; ends = []; bytes = [] }
 
+-- and no room
+abbrev none : Areas
+none = record { values = []; flags = []; ends = []; bytes = [] }
+
 abbrev pub samples : List Sample
 samples =
     -- A
@@ -133,9 +137,11 @@ samples =
     ∷ builds (pair 2 1 0 (Fixed I32) Nullable) [] (0x00 ∷ 0x00 ∷ 0x00 ∷ 0x00 ∷ [])
     ∷ builds i32Runs [] []
     ∷ builds (pair 2 3 0 (Fixed I32) RunLengthNullable) [] []
-    -- I
-    ∷ reads i32Runs 4 blockA (skip 2 ∷ batch 1 room ∷ batch 5 room ∷ batch 5 room ∷ skip 1 ∷ [])
-    (passed 2 ∷ gave (int (pos 7) ∷ []) ∷ gave (int (negsuc 0) ∷ []) ∷ gave [] ∷ refused 7 ∷ [])
+    -- I, a call for each of its five, and with the skip and the first batch in one
+    ∷ reads i32Runs 4 blockA (reading 2 0 none ∷ reading 0 1 room ∷ reading 0 5 room ∷ reading 0 5 room ∷ reading 1 0 none ∷ [])
+    (gave 2 [] ∷ gave 0 (int (pos 7) ∷ []) ∷ gave 0 (int (negsuc 0) ∷ []) ∷ gave 0 [] ∷ refused 7 ∷ [])
+    ∷ reads i32Runs 4 blockA (reading 2 1 room ∷ reading 0 5 room ∷ reading 0 5 room ∷ reading 1 0 none ∷ [])
+    (gave 2 (int (pos 7) ∷ []) ∷ gave 0 (int (negsuc 0) ∷ []) ∷ gave 0 [] ∷ refused 7 ∷ [])
     -- J
     ∷ opens blobWords 4 (
     0x00 ∷ 0x00 ∷ 0x00 ∷ 0x00 ∷ 0x00 ∷ 0x00 ∷ 0x00 ∷ 0x1c ∷ 0x00 ∷ 0x00 ∷ 0x00 ∷ 0x02 ∷ 0x04 ∷ 0x00 ∷ 0x00 ∷ 0x00

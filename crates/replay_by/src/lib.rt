@@ -21,7 +21,7 @@ pub fn start() -> State {
     }
 }
 
-// Commands 3 to 6.
+// Commands 3 to 5.
 pub fn read(s: &[u8], state: State, command: u8, room: &mut [u8]) -> State {
     let reading = read_back::run(s, state.reading, command, room);
     let mut next = state;

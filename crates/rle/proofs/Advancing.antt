@@ -1,4 +1,4 @@
--- The loops of `pass_runs` and `pass_on`: what is left to pass reaches where the whole does. Assumes nothing.
+-- `advance` and the loops of `pass_runs` and `pass_on`: what is left to pass reaches where the whole does. Assumes nothing.
 use Prim.Native.Nat.{ℕ, _+_, _-_, _≤_, _<_}
 use native.Mathlib.Nat.{zero-add}
 use native.Mathlib.Omega.{arith}
@@ -25,6 +25,11 @@ pub record Going (runs : ℕ) (counts : List ℕ) (n : ℕ) (s : Spot) (run at t
 
 pub going-start : (runs : ℕ) (counts : List ℕ) (n : ℕ) (s : Spot) → Going runs counts n s (s .run) (s .at) (s .taken) n
 going-start runs counts n s = record { whole = refl }
+
+-- a run of which no row is taken is passed from its start on
+pub from-its-start : (runs : ℕ) (counts : List ℕ) (n : ℕ) (s : Spot) → s .taken ≡ 0
+    → reached (stepsFrom runs counts n (spot (s .run) (s .at) 0)) ≡ reached (stepsFrom runs counts n s)
+from-its-start runs counts n s h = ap (λ (t : ℕ). reached (stepsFrom runs counts n (spot (s .run) (s .at) t))) (sym h)
 
 module _ {runs : ℕ} {counts : List ℕ} {n : ℕ} {s : Spot} {run at taken left : ℕ} (w : Going runs counts n s run at taken left) where
   pub going-end : left ≤ 0 → At (spot run at taken) ≡ reached (stepsFrom runs counts n s)

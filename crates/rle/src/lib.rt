@@ -323,13 +323,16 @@ fn pass_on(counts: &[u8], runs: usize, first: usize, from: usize, n: usize) -> R
     Reached::At(Spot { run, at, taken: 0 })
 }
 
-// Passes over `n` rows: those of the run that is begun, and then the others.
+// Passes over `n` rows: those of a run that is begun, and then the others.
 pub fn advance(counts: &[u8], runs: usize, from: Spot, n: usize) -> Reached
     requires { ⌜ runs ≤ MOST_ITEMS ⌝ }
     ensures { λ r. ⌜ r ≡ reached (stepsFrom runs (now (counts .entry)) n from) ⌝ }
 {
     if n == 0 {
         return Reached::At(from);
+    }
+    if from.taken == 0 {
+        return pass_on(counts, runs, from.run, from.at, n);
     }
     let rest = rest_of(counts, runs, from);
     let Rest::Rows { free, len } = rest else {

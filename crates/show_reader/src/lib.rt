@@ -1,4 +1,4 @@
-// Reads batches into areas lent in part, and writes all that comes back, in hex: the answer, the whole reader and every lent byte.
+// Reads rows into areas lent in part, and writes all that comes back, in hex: the answer, the whole reader and every lent byte.
 use block::Given;
 use block::Reader;
 use script::say;
@@ -51,7 +51,7 @@ fn show_bytes(s: &[u8]) {
 }
 
 fn show_given(answer: Given) {
-    say(b"batch");
+    say(b"read");
     show_byte(answer.number);
     show_size(answer.rows);
     show_size(answer.bytes);
@@ -73,13 +73,14 @@ fn show_areas(values: &[i64], flags: &[u8], ends: &[u32], bytes: &[u8]) {
 fn give(
     r: Reader,
     block: &[u8],
+    skip: usize,
     size: usize,
     values: &mut [i64],
     flags: &mut [u8],
     ends: &mut [u32],
     bytes: &mut [u8],
 ) -> Reader {
-    let answer = r.batch(block, size, values, flags, ends, bytes);
+    let answer = r.read(block, skip, size, values, flags, ends, bytes);
     show_given(answer);
     show_areas(values, flags, ends, bytes);
     answer.reader
@@ -89,6 +90,7 @@ fn give(
 pub fn give_into(
     r: Reader,
     block: &[u8],
+    skip: usize,
     size: usize,
     values: usize,
     flags: usize,
@@ -114,6 +116,7 @@ pub fn give_into(
     give(
         r,
         block,
+        skip,
         size,
         &mut v[0..values],
         &mut f[0..flags],

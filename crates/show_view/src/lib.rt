@@ -44,21 +44,21 @@ fn show_flags(flags: [u8; 4]) {
     byte(flags[3]);
 }
 
-// What was asked of a block, and the answer.
-fn show_read(rows: usize, passed: usize, asked: usize, number: u8, given: usize) {
+// What was asked of a block, and the answer: the number, the rows given, and the row at which reading then stands.
+fn show_read(rows: usize, skip: usize, most: usize, number: u8, given: usize, place: usize) {
     say(b"read");
     size(rows);
-    size(passed);
-    size(asked);
+    size(skip);
+    size(most);
     say(b":");
     byte(number);
     size(given);
+    say(b" at");
+    size(place);
 }
 
-// Passes over some rows and asks for some, of a block of i32 coded by runs: the number, the rows given, and all that was lent.
-fn read(block: &[u8], rows: usize, passed: usize, asked: usize) {
-    let mut values = [5i64; 4];
-    let mut flags = [9u8; 4];
+// Passes over some rows and asks for some, of a block of i32 coded by runs.
+fn ask(block: &[u8], rows: usize, skip: usize, most: usize, values: &mut [i64], flags: &mut [u8]) {
     let mut ends = [0u32; 1];
     let mut bytes = [0u8; 1];
     let given = view::read(
@@ -67,27 +67,67 @@ fn read(block: &[u8], rows: usize, passed: usize, asked: usize) {
         0,
         rows,
         block,
-        passed,
-        asked,
-        &mut values,
-        &mut flags,
+        skip,
+        most,
+        values,
+        flags,
         &mut ends,
         &mut bytes,
     );
-    show_read(rows, passed, asked, given.number, given.rows);
+    show_read(
+        rows,
+        skip,
+        most,
+        given.number,
+        given.rows,
+        given.reader.place,
+    );
+}
+
+// With room for four rows.
+fn read(block: &[u8], rows: usize, skip: usize, most: usize) {
+    let mut values = [5i64; 4];
+    let mut flags = [9u8; 4];
+    ask(block, rows, skip, most, &mut values, &mut flags);
     show_values(values);
     show_flags(flags);
     say(b"\n");
 }
 
-// Sample A: all of it, parts of it, and calls that are refused.
-pub fn reads(block: &[u8]) {
+// With room for the flag of one row.
+fn read_short(block: &[u8], rows: usize, skip: usize, most: usize) {
+    let mut values = [5i64; 4];
+    let mut flags = [9u8; 1];
+    ask(block, rows, skip, most, &mut values, &mut flags);
+    show_values(values);
+    say(b" flags");
+    byte(flags[0]);
+    say(b"\n");
+}
+
+// Sample A: all of it, and parts of it.
+fn reads_given(block: &[u8]) {
     read(block, 4, 0, 4);
     read(block, 4, 2, 1);
     read(block, 4, 3, 5);
     read(block, 4, 4, 5);
-    read(block, 4, 5, 1);
     read(block, 4, 1, 0);
+    read(block, 4, 4, 0);
+    read_short(block, 4, 3, 2);
+    read_short(block, 4, 2, 0);
+}
+
+// Reads that are refused: too far, of nothing, of a block that isn't opened, and two rows where there is room for one.
+fn reads_refused(block: &[u8]) {
+    read(block, 4, 5, 1);
     read(block, 4, 5, 0);
+    read(block, 4, 0, 0);
     read(block, 5, 0, 4);
+    read(block, 5, 0, 0);
+    read_short(block, 4, 1, 2);
+}
+
+pub fn reads(block: &[u8]) {
+    reads_given(block);
+    reads_refused(block);
 }

@@ -112,7 +112,7 @@ pieceOf s counts at left = pieceIn (s .coded) (s .runs) counts at left
 abbrev pub stepsOf : Source → List ℕ → ℕ → Spot → Steps
 stepsOf s counts n from = stepsIn (s .coded) (s .runs) counts n from
 
--- ---- the weight of some rows: their bytes, or one more than a batch can give for all that are more
+-- ---- the weight of some rows: their bytes, or one more than a read can give for all that are more
 unfoldable pub capped : ℕ → ℕ
 capped t = cond (ltb (MOST_GIVEN + 1) t) (MOST_GIVEN + 1) t
 

@@ -39,7 +39,7 @@ pub enum Weight {
     Broken,
 }
 
-// The bytes of the next rows, of which one more than a batch can give stands for all that are more, and the place after them; or a
+// The bytes of the next rows, of which one more than a read can give stands for all that are more, and the place after them; or a
 // count, an item or a key is wrong.
 pub enum Weighed {
     Total { bytes: usize, next: Spot },

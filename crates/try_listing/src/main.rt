@@ -53,8 +53,21 @@ fn load(s: &[u8], at: usize, n: usize, len: usize, room: &mut [u8]) {
     }
 }
 
+// Past some rows, if there are so many.
 fn passed(reader: Reader, block: &[u8], rows: usize) -> Reader {
-    let answer = reader.skip(block, rows);
+    let mut values = [0i64; 0];
+    let mut flags = [0u8; 0];
+    let mut ends = [0u32; 0];
+    let mut bytes = [0u8; 0];
+    let answer = reader.read(
+        block,
+        rows,
+        0,
+        &mut values,
+        &mut flags,
+        &mut ends,
+        &mut bytes,
+    );
     answer.reader
 }
 

@@ -4,12 +4,11 @@
 // A command is a byte and its numbers. A number below 255 is one byte; any other is the byte 255 and eight bytes, lowest first.
 // 0 puts a block together: the number of parts; for each how often it comes, its length and its bytes.
 // 1 opens it: kind, encoding, width, rows.
-// 2 skips: rows.
-// 3 reads a batch: its size; the lengths of the lent values, flags, ends and bytes.
-// 4 asks for the rows that remain.
-// 5 sets a field of the reader: which one, counted from 0; the number.
-// 6 changes a byte of the block: the place; the byte, as it is.
-// 7 lends the block at another length from here on: the length.
+// 2 reads: the rows to pass over; the rows to give at most; the lengths of the lent values, flags, ends and bytes.
+// 3 asks for the rows that remain.
+// 4 sets a field of the reader: which one, counted from 0; the number.
+// 5 changes a byte of the block: the place; the byte, as it is.
+// 6 lends the block at another length from here on: the length.
 use block::Opened;
 use block::Reader;
 use script::byte;
@@ -180,21 +179,6 @@ fn open(s: &[u8], state: State, block: &[u8]) -> State {
     }
 }
 
-fn skip(s: &[u8], state: State, block: &[u8]) -> State {
-    let n = number(s, state.at);
-    let reader = state.reader;
-    let answer = reader.skip(first(block, state.len), n.value);
-    say(b"skip");
-    show_byte(answer.number);
-    let after = answer.reader;
-    show_reader(after);
-    State {
-        at: n.next,
-        len: state.len,
-        reader: after,
-    }
-}
-
 fn remaining(state: State) -> State {
     let reader = state.reader;
     let answer = reader.remaining();
@@ -209,8 +193,9 @@ fn remaining(state: State) -> State {
     }
 }
 
-fn batch(s: &[u8], state: State, block: &[u8]) -> State {
-    let size = number(s, state.at);
+fn read(s: &[u8], state: State, block: &[u8]) -> State {
+    let skip = number(s, state.at);
+    let size = number(s, skip.next);
     let values = number(s, size.next);
     let flags = number(s, values.next);
     let ends = number(s, flags.next);
@@ -223,6 +208,7 @@ fn batch(s: &[u8], state: State, block: &[u8]) -> State {
         reader: give_into(
             reader,
             part,
+            skip.value,
             size.value,
             values.value,
             flags.value,
@@ -241,11 +227,10 @@ fn run(s: &[u8], state: State, block: &mut [u8]) -> State {
     match command {
         0 => load(s, next, block),
         1 => open(s, next, block),
-        2 => skip(s, next, block),
-        3 => batch(s, next, block),
-        4 => remaining(next),
-        5 => set(s, next),
-        6 => change(s, next, block),
+        2 => read(s, next, block),
+        3 => remaining(next),
+        4 => set(s, next),
+        5 => change(s, next, block),
         _ => lend(s, next),
     }
 }
@@ -268,6 +253,13 @@ fn run_all(s: &[u8], block: &mut [u8]) {
     }
 }
 
+// Room for the commands.
+fn commands() -> [u8; 80000]
+    ensures { λ r. ⌜ 80000 ≡ length r ⌝ }
+{
+    [0; 80000]
+}
+
 // Room for the largest block: 1,048,576 runs over a nullable block of bools.
 fn room() -> [u8; 2300000]
     ensures { λ r. ⌜ 2300000 ≡ length r ⌝ }
@@ -276,7 +268,7 @@ fn room() -> [u8; 2300000]
 }
 
 fn main() {
-    let mut input = io::large_buffer();
+    let mut input = commands();
     let mut block = room();
     let n = io::read_full(0, &mut input);
     run_all(&input[..n], &mut block);

@@ -7,9 +7,8 @@
 //   finish, and for the estimated size.
 // 2 asks both once more, for a null, and finishes.
 // 3 opens the block: kind, encoding, width, rows; then the rows that remain.
-// 4 skips: rows; then the rows that remain.
-// 5 reads a batch: its size; then the rows that remain.
-// 6 gives a block: its length and its bytes.
+// 4 reads: the rows to pass over; the rows to give at most; then the rows that remain.
+// 5 gives a block: its length and its bytes.
 //
 // What is refused says so, and nothing of it is in the answers: the original has no refusals.
 ghost use mathlib.Core.Path.{_≡_};

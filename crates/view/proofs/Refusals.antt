@@ -1,75 +1,65 @@
--- The three calls one after the other come to the definition. Assumes nothing.
+-- Every read of the reader beside a refused opening is refused, and writes nothing; so the two calls one after the other come to the definition.
+-- Assumes nothing.
 use Prim.Native.Nat.{ℕ}
 use mathlib.Core.Bool.{Bool, true, false, cond}
 use mathlib.Core.List.{List}
-use mathlib.Core.Path.{_≡_, refl, sym, ap, subst, _∙_}
+use mathlib.Core.Path.{_≡_, refl, ap, subst, _∙_}
 use lib.Dec.{eqb}
-use borrow.Author.Tests.{eqb-false}
 use Rattle.encode.specs.Kinds.{numbered, kindOf}
 use Rattle.format.specs.Blocks.{columnOf, withEncoding}
-use Rattle.block.specs.declared.Reader.{Reader}
 use Rattle.block.specs.declared.Given.{Given}
 use Rattle.block.specs.declared.Opened.{Opened}
 use Rattle.block.specs.declared.Opened.the-variants.{Open, Refused}
-use Rattle.block.specs.declared.Skipped.{Skipped}
-use Rattle.block.specs.Reading.{Areas, Batch, refusedBatch, skippedIn, skipped, batched, openingOf}
 use Rattle.block.specs.declared.Opening.{Opening}
+use Rattle.block.specs.Reading.{Areas, Batch, refusedBatch, noReader, asksNothing, readIn, read, openingOf}
 use Rattle.view.specs.declared.Steps.{Steps}
-use Rattle.view.specs.Viewing.{batchFrom, readFrom}
-use Rattle.in_turn.specs.InTurn.{sizeAfter, firstRefusal}
+use Rattle.view.specs.Viewing.{readFrom}
+use Rattle.in_turn.specs.InTurn.{firstRefusal}
 use Rattle.view.specs.Stepwise.{Read, stepwise}
 
--- ---- the three calls come to the definition
--- what `read` makes of the three answers
+-- what `read` makes of the two answers
 abbrev toldBy : ℕ → Steps → Given
 toldBy e x = record { number = e; rows = x .rows; bytes = x .bytes; reader = x .reader }
 
 abbrev numberIn : Steps → ℕ
-numberIn x = firstRefusal (x .opened) (x .skipped) (x .given)
+numberIn x = firstRefusal (x .opened) (x .given)
 
 abbrev told : Read → Batch
 told x = record { answer = toldBy (numberIn (x .answer)) (x .answer); areas = x .areas }
 
-module _ (b : List ℕ) (n size : ℕ) (a : Areas) where
-  -- the reader beside a refused opening is the same after a skip
-  kept : (x : Opened) → (openingOf x .number ≡ 0 → ⊥) → skipped (openingOf x .reader) b n .reader ≡ openingOf x .reader
-  unfolding openingOf skipped skippedIn columnOf withEncoding kindOf numbered
-  kept (Open r) h = absurd (h refl)
-  kept (Refused e) h = refl
+module _ (b : List ℕ) (skip size : ℕ) (a : Areas) where
+  -- 6 if the read asks for nothing, and else 9: no rows and no bytes are given, the reader comes back, and the areas stay
+  pub no-reader-refused : read noReader b skip size a ≡ refusedBatch (cond (asksNothing skip size) 6 9) noReader a
+  unfolding read readIn columnOf withEncoding kindOf numbered
+  no-reader-refused = go (asksNothing skip size)
+    where
+      go : (p : Bool) → cond p (refusedBatch 6 noReader a) (refusedBatch 9 noReader a) ≡ refusedBatch (cond p 6 9) noReader a
+      go true = refl
+      go false = refl
 
-  module _ (o : Opening) (s : Skipped) where
-    abbrev answers : Bool → Bool → Batch → Batch
-    answers p q g = record {
-      answer = record {
-        number = cond p (cond q (g .answer .number) (s .number)) (o .number);
-        rows = g .answer .rows;
-        bytes = g .answer .bytes;
-        reader = g .answer .reader;
-      };
-      areas = g .areas;
-    }
+  -- ---- the two calls come to the definition
+  -- a read, with the number that is told of it
+  abbrev withNumber : ℕ → Batch → Batch
+  withNumber e g = record { answer = record { number = e; rows = g .answer .rows; bytes = g .answer .bytes; reader = g .answer .reader }; areas = g .areas }
 
-    by-cases : (p q : Bool) → (p ≡ false → s .reader ≡ o .reader)
-        → answers p q (batched (s .reader) b (cond p (cond q size 0) 0) a)
-        ≡ cond p (cond q (batched (s .reader) b size a) (refusedBatch (s .number) (s .reader) a)) (refusedBatch (o .number) (o .reader) a)
-    unfolding batched
-    by-cases true true h = refl
-    by-cases true false h = refl
-    by-cases false q h = ap (λ (r : Reader). refusedBatch (o .number) r a) (h refl)
+  unopened : (e : ℕ) (p : Bool)
+      → withNumber (cond p (read noReader b skip size a .answer .number) e) (read noReader b skip size a)
+      ≡ cond p (read noReader b skip size a) (refusedBatch e noReader a)
+  unopened e true = refl
+  unopened e false = ap (withNumber e) no-reader-refused
 
-  tells : (x : Opened) → told (stepwise (openingOf x) b n size a) ≡ readFrom (openingOf x) b n size a
-  unfolding firstRefusal sizeAfter readFrom batchFrom
-  tells x =
-      by-cases (openingOf x) (skipped (openingOf x .reader) b n) (eqb (openingOf x .number) 0) (eqb (skipped (openingOf x .reader) b n .number) 0)
-      (λ h. kept x (eqb-false _ _ h))
+  tells : (x : Opened) → told (stepwise (openingOf x) b skip size a) ≡ readFrom (openingOf x) b skip size a
+  unfolding firstRefusal readFrom openingOf
+  tells (Open r) = refl
+  tells (Refused e) = unopened e (eqb e 0)
 
-  -- what is said of the four areas, after the three calls and by the definition
+  -- what is said of the four areas, after the two calls and by the definition
   abbrev Hold : Areas → Areas → Type 0
   Hold y z = (y .values ≡ z .values) × ((y .flags ≡ z .flags) × ((y .ends ≡ z .ends) × (y .bytes ≡ z .bytes)))
 
   pub read-told : (x : Opened) (st : Steps) (e : ℕ) (y : Areas) → e ≡ numberIn st
-      → (st ≡ stepwise (openingOf x) b n size a .answer) × Hold y (stepwise (openingOf x) b n size a .areas)
-      → (toldBy e st ≡ readFrom (openingOf x) b n size a .answer) × Hold y (readFrom (openingOf x) b n size a .areas)
+      → (st ≡ stepwise (openingOf x) b skip size a .answer) × Hold y (stepwise (openingOf x) b skip size a .areas)
+      → (toldBy e st ≡ readFrom (openingOf x) b skip size a .answer) × Hold y (readFrom (openingOf x) b skip size a .areas)
   read-told x st e y p q =
       subst (λ (z : Batch). (toldBy e st ≡ z .answer) × Hold y (z .areas)) (tells x)
       (ap (λ (m : ℕ). toldBy m st) p ∙ ap (λ (t : Steps). toldBy (numberIn t) t) (q .0), q .1)

@@ -1,5 +1,5 @@
--- The promises of opening, skip, batch and remaining on a view, and of a read, say each part of the answer: two answers that satisfy one coincide. Assumes
--- nothing.
+-- The promises of opening, read and remaining on a view, and of opening and reading in one call, say each part of the answer: two answers that satisfy one
+-- coincide. Assumes nothing.
 use Prim.Native.Nat.{ℕ}
 use mathlib.Core.List.{List}
 use mathlib.Core.Path.{_≡_, sym, _∙_}
@@ -44,8 +44,8 @@ module _ (n : ℕ) (b : RefT (List ℕ)) (x : Reader) where
     pub one-taken : (r s : Taken) → Gave r → Gave s → r ≡ s
     one-taken r s p q = whole-taken r p ∙ sym (whole-taken s q)
 
--- ---- a read: the answer and the four areas
-pub one-read : (kind encoding width rows : ℕ) (block : List ℕ) (passed size : ℕ) (lent : Areas) (x y : Given) (a b : Areas)
-    → Reads kind encoding width rows block passed size lent x a → Reads kind encoding width rows block passed size lent y b → (x ≡ y) × (a ≡ b)
-one-read kind encoding width rows block passed size lent x y a b p q =
+-- ---- opening and reading in one call: the answer and the four areas
+pub one-read : (kind encoding width rows : ℕ) (block : List ℕ) (skip size : ℕ) (lent : Areas) (x y : Given) (a b : Areas)
+    → Reads kind encoding width rows block skip size lent x a → Reads kind encoding width rows block skip size lent y b → (x ≡ y) × (a ≡ b)
+one-read kind encoding width rows block skip size lent x y a b p q =
     (p .0 ∙ sym (q .0), same-areas a b (p .1 ∙ sym (q .1)) (p .2 ∙ sym (q .2)) (p .3 ∙ sym (q .3)) (p .4 ∙ sym (q .4)))

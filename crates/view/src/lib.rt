@@ -2,7 +2,7 @@
 use block::Given;
 use block::Reader;
 ghost use mathlib.Core.Path.{_≡_};
-ghost use Rattle.block.specs.Reading.{Areas, Batch, areas, opened, skipped, batched, remaining, openingOf};
+ghost use Rattle.block.specs.Reading.{Areas, Batch, areas, opened, read as readOf, remaining, openingOf};
 ghost use Rattle.view.specs.Viewing.{readBlock};
 ghost use Rattle.view.specs.Stepwise.{Read, stepwise};
 
@@ -12,14 +12,13 @@ pub struct View<'a> {
     pub reader: Reader,
 }
 
-// What opening and a skip answer. Beside a refused opening stands a reader that every call refuses; beside a refused skip the one
-// that was given.
+// What opening answers. Beside a refusal stands a reader that every call refuses.
 pub struct Viewed<'a> {
     pub number: u8,
     pub view: View<'a>,
 }
 
-// What a batch answers: the rows given and, for char, blob and string, the bytes written.
+// What a read answers: the rows given and, for char, blob and string, the bytes written; or a refusal with the view as it was.
 pub struct Taken<'a> {
     pub number: u8,
     pub rows: usize,
@@ -54,23 +53,10 @@ pub fn open<'a>(
 }
 
 impl<'a> View<'a> {
-    // Passes over `rows` rows.
-    pub fn skip(self, rows: usize) -> Viewed<'a>
-        ensures { λ r. ⌜ (r .number ≡ skipped (self .entry .reader) (now (self .entry .block)) rows .number)
-            × (r .view .block ≡ self .entry .block)
-            × (r .view .reader ≡ skipped (self .entry .reader) (now (self .entry .block)) rows .reader) ⌝ }
-    {
-        let answer = self.reader.skip(self.block, rows);
-        let block = self.block;
-        let reader = answer.reader;
-        let view = View { block, reader };
-        let number = answer.number;
-        Viewed { number, view }
-    }
-
-    // Gives up to `size` rows.
-    pub fn batch(
+    // Passes over `skip` rows, then gives up to `size` of those behind them; if that can't be done whole, nothing is.
+    pub fn read(
         self,
+        skip: usize,
         size: usize,
         values: &mut [i64],
         flags: &mut [u8],
@@ -78,25 +64,25 @@ impl<'a> View<'a> {
         bytes: &mut [u8],
     ) -> Taken<'a>
         ensures { λ r. ⌜ (r .number
-            ≡ batched (self .entry .reader) (now (self .entry .block)) size (areas (now (values .entry)) (now (flags .entry)) (now (ends .entry)) (now (bytes .entry))) .answer .number)
+            ≡ readOf (self .entry .reader) (now (self .entry .block)) skip size (areas (now (values .entry)) (now (flags .entry)) (now (ends .entry)) (now (bytes .entry))) .answer .number)
             × (r .rows
-            ≡ batched (self .entry .reader) (now (self .entry .block)) size (areas (now (values .entry)) (now (flags .entry)) (now (ends .entry)) (now (bytes .entry))) .answer .rows)
+            ≡ readOf (self .entry .reader) (now (self .entry .block)) skip size (areas (now (values .entry)) (now (flags .entry)) (now (ends .entry)) (now (bytes .entry))) .answer .rows)
             × (r .bytes
-            ≡ batched (self .entry .reader) (now (self .entry .block)) size (areas (now (values .entry)) (now (flags .entry)) (now (ends .entry)) (now (bytes .entry))) .answer .bytes)
+            ≡ readOf (self .entry .reader) (now (self .entry .block)) skip size (areas (now (values .entry)) (now (flags .entry)) (now (ends .entry)) (now (bytes .entry))) .answer .bytes)
             × (r .view .block ≡ self .entry .block)
             × (r .view .reader
-            ≡ batched (self .entry .reader) (now (self .entry .block)) size (areas (now (values .entry)) (now (flags .entry)) (now (ends .entry)) (now (bytes .entry))) .answer .reader) ⌝ }
+            ≡ readOf (self .entry .reader) (now (self .entry .block)) skip size (areas (now (values .entry)) (now (flags .entry)) (now (ends .entry)) (now (bytes .entry))) .answer .reader) ⌝ }
         ensures { λ _. ⌜ now (values .exit)
-            ≡ batched (self .entry .reader) (now (self .entry .block)) size (areas (now (values .entry)) (now (flags .entry)) (now (ends .entry)) (now (bytes .entry))) .areas .values ⌝ }
+            ≡ readOf (self .entry .reader) (now (self .entry .block)) skip size (areas (now (values .entry)) (now (flags .entry)) (now (ends .entry)) (now (bytes .entry))) .areas .values ⌝ }
         ensures { λ _. ⌜ now (flags .exit)
-            ≡ batched (self .entry .reader) (now (self .entry .block)) size (areas (now (values .entry)) (now (flags .entry)) (now (ends .entry)) (now (bytes .entry))) .areas .flags ⌝ }
+            ≡ readOf (self .entry .reader) (now (self .entry .block)) skip size (areas (now (values .entry)) (now (flags .entry)) (now (ends .entry)) (now (bytes .entry))) .areas .flags ⌝ }
         ensures { λ _. ⌜ now (ends .exit)
-            ≡ batched (self .entry .reader) (now (self .entry .block)) size (areas (now (values .entry)) (now (flags .entry)) (now (ends .entry)) (now (bytes .entry))) .areas .ends ⌝ }
+            ≡ readOf (self .entry .reader) (now (self .entry .block)) skip size (areas (now (values .entry)) (now (flags .entry)) (now (ends .entry)) (now (bytes .entry))) .areas .ends ⌝ }
         ensures { λ _. ⌜ now (bytes .exit)
-            ≡ batched (self .entry .reader) (now (self .entry .block)) size (areas (now (values .entry)) (now (flags .entry)) (now (ends .entry)) (now (bytes .entry))) .areas .bytes ⌝ }
+            ≡ readOf (self .entry .reader) (now (self .entry .block)) skip size (areas (now (values .entry)) (now (flags .entry)) (now (ends .entry)) (now (bytes .entry))) .areas .bytes ⌝ }
     {
         let answer = self.reader
-            .batch(self.block, size, values, flags, ends, bytes);
+            .read(self.block, skip, size, values, flags, ends, bytes);
         let block = self.block;
         let reader = answer.reader;
         let view = View { block, reader };
@@ -130,24 +116,23 @@ impl<'a> View<'a> {
 
 // ---- one function above them, with plain parameters
 
-// What the three calls answered, one after the other.
+// What the two calls answered, one after the other.
 struct Steps {
     opened: u8,
-    skipped: u8,
     given: u8,
     rows: usize,
     bytes: usize,
     reader: Reader,
 }
 
-// Opens, passes over `passed` rows, and gives up to `size`.
+// Opens and reads. After a refused opening the read is one of a reader that is refused as well, and writes nothing.
 fn go_through(
     kind: usize,
     encoding: usize,
     width: usize,
     rows: usize,
     block: &[u8],
-    passed: usize,
+    skip: usize,
     size: usize,
     values: &mut [i64],
     flags: &mut [u8],
@@ -155,28 +140,25 @@ fn go_through(
     bytes: &mut [u8],
 ) -> Steps
     ensures { λ r. ⌜ r
-        ≡ stepwise (openingOf (opened kind encoding width rows (now (block .entry)))) (now (block .entry)) passed size
+        ≡ stepwise (openingOf (opened kind encoding width rows (now (block .entry)))) (now (block .entry)) skip size
         (areas (now (values .entry)) (now (flags .entry)) (now (ends .entry)) (now (bytes .entry))) .answer ⌝ }
     ensures { λ _. ⌜ now (values .exit)
-        ≡ stepwise (openingOf (opened kind encoding width rows (now (block .entry)))) (now (block .entry)) passed size
+        ≡ stepwise (openingOf (opened kind encoding width rows (now (block .entry)))) (now (block .entry)) skip size
         (areas (now (values .entry)) (now (flags .entry)) (now (ends .entry)) (now (bytes .entry))) .areas .values ⌝ }
     ensures { λ _. ⌜ now (flags .exit)
-        ≡ stepwise (openingOf (opened kind encoding width rows (now (block .entry)))) (now (block .entry)) passed size
+        ≡ stepwise (openingOf (opened kind encoding width rows (now (block .entry)))) (now (block .entry)) skip size
         (areas (now (values .entry)) (now (flags .entry)) (now (ends .entry)) (now (bytes .entry))) .areas .flags ⌝ }
     ensures { λ _. ⌜ now (ends .exit)
-        ≡ stepwise (openingOf (opened kind encoding width rows (now (block .entry)))) (now (block .entry)) passed size
+        ≡ stepwise (openingOf (opened kind encoding width rows (now (block .entry)))) (now (block .entry)) skip size
         (areas (now (values .entry)) (now (flags .entry)) (now (ends .entry)) (now (bytes .entry))) .areas .ends ⌝ }
     ensures { λ _. ⌜ now (bytes .exit)
-        ≡ stepwise (openingOf (opened kind encoding width rows (now (block .entry)))) (now (block .entry)) passed size
+        ≡ stepwise (openingOf (opened kind encoding width rows (now (block .entry)))) (now (block .entry)) skip size
         (areas (now (values .entry)) (now (flags .entry)) (now (ends .entry)) (now (bytes .entry))) .areas .bytes ⌝ }
 {
     let opened = open(kind, encoding, width, rows, block);
-    let skipped = opened.view.skip(passed);
-    let wanted = in_turn::size_after(opened.number, skipped.number, size);
-    let taken = skipped.view.batch(wanted, values, flags, ends, bytes);
+    let taken = opened.view.read(skip, size, values, flags, ends, bytes);
     Steps {
         opened: opened.number,
-        skipped: skipped.number,
         given: taken.number,
         rows: taken.rows,
         bytes: taken.bytes,
@@ -184,29 +166,29 @@ fn go_through(
     }
 }
 
-// Opens a block, passes over `passed` rows, and gives up to `size`: the answer of the first call that is refused, or the batch's.
+// Opens a block, passes over `skip` rows, and gives up to `size` of those behind them: the opening's refusal, or the read's answer.
 pub fn read(
     kind: usize,
     encoding: usize,
     width: usize,
     rows: usize,
     block: &[u8],
-    passed: usize,
+    skip: usize,
     size: usize,
     values: &mut [i64],
     flags: &mut [u8],
     ends: &mut [u32],
     bytes: &mut [u8],
 ) -> Given
-    ensures { λ r. ⌜ r ≡ readBlock kind encoding width rows (now (block .entry)) passed size (areas (now (values .entry)) (now (flags .entry)) (now (ends .entry)) (now (bytes .entry))) .answer ⌝ }
+    ensures { λ r. ⌜ r ≡ readBlock kind encoding width rows (now (block .entry)) skip size (areas (now (values .entry)) (now (flags .entry)) (now (ends .entry)) (now (bytes .entry))) .answer ⌝ }
     ensures { λ _. ⌜ now (values .exit)
-        ≡ readBlock kind encoding width rows (now (block .entry)) passed size (areas (now (values .entry)) (now (flags .entry)) (now (ends .entry)) (now (bytes .entry))) .areas .values ⌝ }
+        ≡ readBlock kind encoding width rows (now (block .entry)) skip size (areas (now (values .entry)) (now (flags .entry)) (now (ends .entry)) (now (bytes .entry))) .areas .values ⌝ }
     ensures { λ _. ⌜ now (flags .exit)
-        ≡ readBlock kind encoding width rows (now (block .entry)) passed size (areas (now (values .entry)) (now (flags .entry)) (now (ends .entry)) (now (bytes .entry))) .areas .flags ⌝ }
+        ≡ readBlock kind encoding width rows (now (block .entry)) skip size (areas (now (values .entry)) (now (flags .entry)) (now (ends .entry)) (now (bytes .entry))) .areas .flags ⌝ }
     ensures { λ _. ⌜ now (ends .exit)
-        ≡ readBlock kind encoding width rows (now (block .entry)) passed size (areas (now (values .entry)) (now (flags .entry)) (now (ends .entry)) (now (bytes .entry))) .areas .ends ⌝ }
+        ≡ readBlock kind encoding width rows (now (block .entry)) skip size (areas (now (values .entry)) (now (flags .entry)) (now (ends .entry)) (now (bytes .entry))) .areas .ends ⌝ }
     ensures { λ _. ⌜ now (bytes .exit)
-        ≡ readBlock kind encoding width rows (now (block .entry)) passed size (areas (now (values .entry)) (now (flags .entry)) (now (ends .entry)) (now (bytes .entry))) .areas .bytes ⌝ }
+        ≡ readBlock kind encoding width rows (now (block .entry)) skip size (areas (now (values .entry)) (now (flags .entry)) (now (ends .entry)) (now (bytes .entry))) .areas .bytes ⌝ }
 {
     let steps = go_through(
         kind,
@@ -214,14 +196,14 @@ pub fn read(
         width,
         rows,
         block,
-        passed,
+        skip,
         size,
         values,
         flags,
         ends,
         bytes,
     );
-    let number = in_turn::first_refusal(steps.opened, steps.skipped, steps.given);
+    let number = in_turn::first_refusal(steps.opened, steps.given);
     let reader = steps.reader;
     Given {
         number,

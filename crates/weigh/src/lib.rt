@@ -16,7 +16,7 @@ ghost use Rattle.encode.specs.declared.Kind.the-variants.{Char, Blob};
 ghost use Rattle.plain.specs.Plain.{leastBytes};
 ghost use Rattle.source.specs.Rows.{sizeBy, goodBy, Ready, Starts, stepsOf, capped, weightOf, weighedBy, Texts};
 
-// What stands for all sums that are more than a batch can give.
+// What stands for all sums that are more than a read can give.
 const PAST_GIVEN: usize = limits::MOST_GIVEN + 1;
 
 // `rows` rows of `len` bytes more.

@@ -70,7 +70,7 @@ module _ (kind encoding width target : ℕ) (k : Kind) (e : Encoding) (column : 
     unfolding readBack
     whole-way z ds = rw (block-as-written z .1) (our-blocks-read-back kind encoding width k e column rows (accepted-list k e cs) ds)
 
-    -- All rows of the batches, one after the other, are those of the stored form that no skip passed over, in order, up to the place reached.
+    -- All rows that the reads gave, one after the other, are those of the stored form that none passed over, in order, up to the place reached.
     pub stored-rows-in-order : f .answer .number ≡ 0 → (ds : List ReaderCall)
         → let xs = readBack kind encoding width rows (written f) ds in handedOut xs ≡ unskipped (storedForm k e rows) xs
     stored-rows-in-order z ds = rw (whole-way z ds) (expected-in-order k (storedForm k e rows) ds)

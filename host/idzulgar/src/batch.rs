@@ -1,10 +1,10 @@
-//! Memory for a batch of rows.
+//! Memory for rows that are read.
 use std::collections::TryReserveError;
 use std::hash::{Hash, Hasher};
 
 use crate::Kind;
 
-/// Memory that a batch of rows is read into, to be used again and again.
+/// Memory that some rows are read into, a batch, to be used again and again.
 ///
 /// ```
 /// use idzulgar::{Batch, Column, Encoding, Kind, Reader, Row};
@@ -13,11 +13,11 @@ use crate::Kind;
 /// let block = [5, 0, 0, 0, 0xFE, 0xFF, 5, 1, 0, 0, 0];
 /// let mut reader = Reader::open(Column::new(Kind::I16, Encoding::Nullable), 3, &block[..])?;
 /// let mut batch = Batch::new(Kind::I16, 1024, 0).expect("memory for 1,024 rows");
-/// assert_eq!(reader.batch(2, &mut batch)?, 2);
+/// assert_eq!(reader.read(0, 2, &mut batch)?, 2);
 /// assert_eq!(batch.iter().collect::<Vec<_>>(), [Row::Int(5), Row::Null]);
-/// assert_eq!(reader.batch(1024, &mut batch)?, 1);
+/// assert_eq!(reader.read(0, 1024, &mut batch)?, 1);
 /// assert_eq!(batch.get(0), Some(Row::Int(-2)));
-/// assert_eq!(reader.batch(1024, &mut batch)?, 0);
+/// assert_eq!(reader.read(0, 1024, &mut batch)?, 0);
 /// # Ok::<(), idzulgar::Refusal>(())
 /// ```
 #[derive(Debug)]
@@ -200,12 +200,12 @@ impl Batch {
         })
     }
 
-    /// How many rows the last batch gave.
+    /// How many rows the last read gave.
     pub fn len(&self) -> usize {
         self.rows
     }
 
-    /// Whether the last batch gave no rows.
+    /// Whether the last read gave no rows.
     pub fn is_empty(&self) -> bool {
         self.rows == 0
     }
@@ -215,7 +215,7 @@ impl Batch {
         self.flags.len()
     }
 
-    /// A row of the last batch.
+    /// A row of the last read.
     pub fn get(&self, place: usize) -> Option<Row<'_>> {
         if place >= self.rows {
             return None;
@@ -235,7 +235,7 @@ impl Batch {
         Some(Row::Bytes(self.bytes.get(from..to)?))
     }
 
-    /// The rows of the last batch.
+    /// The rows of the last read.
     pub fn iter(&self) -> impl Iterator<Item = Row<'_>> + '_ {
         (0..self.rows).map_while(|place| self.get(place))
     }

@@ -32,7 +32,8 @@ pub struct ReaderRecord {
     pub taken: usize,
 }
 
-/// What opening answers. Beside a refusal stands a record that every call refuses as 9, but for a batch of 0 rows, which is 6.
+/// What opening answers. Beside a refusal stands a record that every call refuses as 9, but for a read that passes over no rows and gives
+/// none, which is 6.
 #[repr(C)]
 #[derive(Clone, Copy, Debug, PartialEq, Eq)]
 #[allow(missing_docs)]
@@ -41,7 +42,7 @@ pub struct Opening {
     pub reader: ReaderRecord,
 }
 
-/// What a batch answers: the rows given and, for char, blob and string, the bytes written.
+/// What a read answers: the rows given and, for char, blob and string, the bytes written.
 #[repr(C)]
 #[derive(Clone, Copy, Debug, PartialEq, Eq)]
 #[allow(missing_docs)]
@@ -49,15 +50,6 @@ pub struct Given {
     pub number: u8,
     pub rows: usize,
     pub bytes: usize,
-    pub reader: ReaderRecord,
-}
-
-/// What a skip answers.
-#[repr(C)]
-#[derive(Clone, Copy, Debug, PartialEq, Eq)]
-#[allow(missing_docs)]
-pub struct Skipped {
-    pub number: u8,
     pub reader: ReaderRecord,
 }
 
@@ -153,10 +145,11 @@ pub struct Areas<'a> {
 
 extern "C" {
     fn idz_open(kind: usize, encoding: usize, width: usize, rows: usize, block: *const u8, block_len: usize) -> Opening;
-    fn idz_batch(
+    fn idz_read(
         reader: ReaderRecord,
         block: *const u8,
         block_len: usize,
+        skip: usize,
         size: usize,
         values: *mut i64,
         values_len: usize,
@@ -167,7 +160,6 @@ extern "C" {
         bytes: *mut u8,
         bytes_len: usize,
     ) -> Given;
-    fn idz_skip(reader: ReaderRecord, block: *const u8, block_len: usize, rows: usize) -> Skipped;
     fn idz_remaining(reader: ReaderRecord) -> Left;
     fn idz_create(kind: usize, encoding: usize, width: usize, target: usize) -> Creation;
     fn idz_append(
@@ -216,10 +208,12 @@ pub fn open(kind: usize, encoding: usize, width: usize, rows: usize, block: &[u8
     unsafe { idz_open(kind, encoding, width, rows, block.as_ptr(), block.len()) }
 }
 
-/// Reads up to `size` rows into the lent areas.
-pub fn batch(
+/// Passes over `skip` rows, then reads up to `size` rows into the lent areas: both, or neither.
+#[allow(clippy::too_many_arguments)]
+pub fn read(
     reader: ReaderRecord,
     block: &[u8],
+    skip: usize,
     size: usize,
     values: &mut [i64],
     flags: &mut [u8],
@@ -228,10 +222,11 @@ pub fn batch(
 ) -> Given {
     // SAFETY: see the head of this file.
     unsafe {
-        idz_batch(
+        idz_read(
             reader,
             block.as_ptr(),
             block.len(),
+            skip,
             size,
             values.as_mut_ptr(),
             values.len(),
@@ -243,12 +238,6 @@ pub fn batch(
             bytes.len(),
         )
     }
-}
-
-/// Passes over rows.
-pub fn skip(reader: ReaderRecord, block: &[u8], rows: usize) -> Skipped {
-    // SAFETY: see the head of this file.
-    unsafe { idz_skip(reader, block.as_ptr(), block.len(), rows) }
 }
 
 /// How many rows are left, from the record alone.

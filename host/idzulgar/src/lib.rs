@@ -11,10 +11,8 @@
 //! let column = Column::new(Kind::I32, Encoding::RunLength);
 //! let block = [2, 0, 0, 0, 2, 0, 0, 0, 3, 1, 7, 0, 0, 0, 255, 255, 255, 255];
 //!
-//! let mut reader = Reader::open(column, 4, &block[..])?;
-//! reader.skip(2)?;
-//! assert_eq!(reader.remaining()?, 2);
-//! let rows: Result<Vec<Value>, Refusal> = reader.rows().collect();
+//! let reader = Reader::open(column, 4, &block[..])?;
+//! let rows: Result<Vec<Value>, Refusal> = reader.rows_after(2).collect();
 //! assert_eq!(rows?, [Value::Int(7), Value::Int(-1)]);
 //!
 //! // one byte is missing

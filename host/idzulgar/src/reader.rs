@@ -52,21 +52,38 @@ impl<B: AsRef<[u8]>> Reader<B> {
         Ok(answer.rows as u64)
     }
 
-    /// Passes over rows. A skip above the rows remaining is refused and leaves the reader where it was.
-    pub fn skip(&mut self, rows: u64) -> Result<(), Refusal> {
-        let rows = usize::try_from(rows).map_err(|_| Refusal::TooFar)?;
-        let answer = calls::skip(self.record, self.block.as_ref(), rows);
-        Refusal::check(answer.number)?;
-        self.record = answer.reader;
-        Ok(())
-    }
-
-    /// Reads the next `size` rows, or as many as are left, and answers how many that are: 0 at the end. Refused as
-    /// [`Refusal::Room`] if the batch hasn't the memory for all of them; the batch then keeps the rows that it had.
-    pub fn batch(&mut self, size: usize, batch: &mut Batch) -> Result<usize, Refusal> {
-        let answer = calls::batch(
+    /// Passes over `skip` rows, then reads the next `size` rows, or as many as are left, and answers how many that are: 0 at the end.
+    ///
+    /// It does both or neither: a refused read leaves the reader before the rows that it was to pass over, and the batch with the rows
+    /// that it had. Refused as [`Refusal::TooFar`] if `skip` is above the rows remaining, as [`Refusal::Room`] if the batch hasn't the
+    /// memory for all rows to be given, and as [`Refusal::NoRows`] if `skip` and `size` are both 0. If `size` alone is 0, it only passes
+    /// over rows, and the batch then has none.
+    ///
+    /// ```
+    /// use idzulgar::{Batch, Column, Encoding, Kind, Reader, Refusal, Row};
+    ///
+    /// // i32, run-length: 7 7 7 -1
+    /// let block = [2, 0, 0, 0, 2, 0, 0, 0, 3, 1, 7, 0, 0, 0, 255, 255, 255, 255];
+    /// let mut reader = Reader::open(Column::new(Kind::I32, Encoding::RunLength), 4, &block[..])?;
+    ///
+    /// // a sheet wants the third row and the fourth, and has memory for one: it gets none, and the reader stands where it stood
+    /// let mut short = Batch::new(Kind::I32, 1, 0).expect("memory for a row");
+    /// assert_eq!(reader.read(2, 2, &mut short), Err(Refusal::Room));
+    /// assert_eq!(reader.remaining()?, 4);
+    ///
+    /// // so it makes the same call again
+    /// let mut batch = Batch::new(Kind::I32, 2, 0).expect("memory for two rows");
+    /// assert_eq!(reader.read(2, 2, &mut batch)?, 2);
+    /// assert_eq!(batch.iter().collect::<Vec<_>>(), [Row::Int(7), Row::Int(-1)]);
+    /// assert_eq!(reader.read(1, 1, &mut batch), Err(Refusal::TooFar));
+    /// # Ok::<(), Refusal>(())
+    /// ```
+    pub fn read(&mut self, skip: u64, size: usize, batch: &mut Batch) -> Result<usize, Refusal> {
+        let skip = usize::try_from(skip).map_err(|_| Refusal::TooFar)?;
+        let answer = calls::read(
             self.record,
             self.block.as_ref(),
+            skip,
             size,
             &mut batch.values,
             &mut batch.flags,
@@ -82,7 +99,26 @@ impl<B: AsRef<[u8]>> Reader<B> {
 
     /// The rows that are left, one after the other. The first refusal is the last item.
     pub fn rows(self) -> Rows<B> {
-        Rows { reader: self, batch: None, next: 0, over: false }
+        self.rows_after(0)
+    }
+
+    /// The rows behind the next `skip`, one after the other. The first refusal is the last item. Nothing is passed over before the first
+    /// row is asked for; should fewer rows be left, the one item is then [`Refusal::TooFar`].
+    ///
+    /// ```
+    /// use idzulgar::{Column, Encoding, Kind, Reader, Refusal, Value};
+    ///
+    /// // i16, nullable: 5 null -2
+    /// let block = [5, 0, 0, 0, 0xFE, 0xFF, 5, 1, 0, 0, 0];
+    /// let reader = Reader::open(Column::new(Kind::I16, Encoding::Nullable), 3, &block[..])?;
+    /// let from = |skip| reader.clone().rows_after(skip).collect::<Result<Vec<Value>, Refusal>>();
+    /// assert_eq!(from(1)?, [Value::Null, Value::Int(-2)]);
+    /// assert_eq!(from(3)?, []);
+    /// assert_eq!(from(4), Err(Refusal::TooFar));
+    /// # Ok::<(), Refusal>(())
+    /// ```
+    pub fn rows_after(self, skip: u64) -> Rows<B> {
+        Rows { reader: self, skip, batch: None, next: 0, over: false }
     }
 }
 
@@ -93,17 +129,19 @@ const ROW_BYTES: usize = 1 << 24;
 const AHEAD: usize = 256;
 const AHEAD_BYTES: usize = 1 << 16;
 
-/// The rows of a reader: see [`Reader::rows`].
+/// The rows of a reader: see [`Reader::rows`] and [`Reader::rows_after`].
 #[derive(Debug)]
 pub struct Rows<B> {
     reader: Reader<B>,
+    /// The rows that the first read passes over, however often it is tried; 0 after it.
+    skip: u64,
     batch: Option<Batch>,
     next: usize,
     over: bool,
 }
 
 impl<B: AsRef<[u8]>> Rows<B> {
-    /// Reads some rows ahead: fewer if they are long.
+    /// Reads some rows ahead: fewer if they are long. A read that is refused hasn't moved, so the next one passes over the same rows.
     fn read_ahead(&mut self) -> Result<usize, Refusal> {
         let kind = self.reader.kind;
         let mut batch = match self.batch.take() {
@@ -112,9 +150,9 @@ impl<B: AsRef<[u8]>> Rows<B> {
         };
         let mut size = batch.capacity();
         let given = loop {
-            match self.reader.batch(size, &mut batch) {
+            match self.reader.read(self.skip, size, &mut batch) {
                 Err(Refusal::Room) if size > 1 => size /= 2,
-                Err(Refusal::Room) if batch.bytes.len() < ROW_BYTES => {
+                Err(Refusal::Room) if kind.is_bytes() && batch.bytes.len() < ROW_BYTES => {
                     batch = Batch::new(kind, AHEAD, ROW_BYTES).map_err(|_| Refusal::Room)?;
                     size = batch.capacity();
                 }
@@ -122,6 +160,7 @@ impl<B: AsRef<[u8]>> Rows<B> {
             }
         };
         self.batch = Some(batch);
+        self.skip = 0;
         given
     }
 }

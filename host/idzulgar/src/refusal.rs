@@ -15,9 +15,9 @@ pub enum Refusal {
     Limit,
     /// 4: lent room is too short for the whole answer.
     Room,
-    /// 6: a batch of 0 rows.
+    /// 6: nothing asked for: a read that passes over no rows and gives none.
     NoRows,
-    /// 7: a skip above the rows remaining.
+    /// 7: more rows to pass over than remain.
     TooFar,
     /// 9: the record and the lent memory disagree.
     Disagree,
@@ -51,8 +51,8 @@ const TABLE: [(u8, Refusal, &str); 15] = [
         "a limit is passed (rows 281474976710655, stored items or runs 1048576, entries 65536, block 16777216 bytes)",
     ),
     (4, Refusal::Room, "lent room is too short for the whole answer"),
-    (6, Refusal::NoRows, "a batch of 0 rows"),
-    (7, Refusal::TooFar, "a skip above the rows remaining"),
+    (6, Refusal::NoRows, "nothing asked for: a read that passes over no rows and gives none"),
+    (7, Refusal::TooFar, "more rows to pass over than remain"),
     (9, Refusal::Disagree, "the record and the lent memory disagree"),
     (10, Refusal::Cut, "the block is cut"),
     (11, Refusal::Length, "a length in the block is wrong"),

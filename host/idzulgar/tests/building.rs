@@ -93,7 +93,7 @@ fn floats_are_kept_and_compared_by_their_bits() {
 
         let mut reader = Reader::open(column, 24, block).unwrap();
         let mut batch = Batch::new(Kind::F64, 24, 0).unwrap();
-        assert_eq!(reader.batch(24, &mut batch), Ok(24));
+        assert_eq!(reader.read(0, 24, &mut batch), Ok(24));
         let null = if matches!(encoding, 0 | 2) { Row::F64(0.0) } else { Row::Null };
         for (place, bits) in RATES.into_iter().enumerate() {
             let given = [batch.get(3 * place), batch.get(3 * place + 1)].map(|row| row.and_then(Row::f64).map(f64::to_bits));

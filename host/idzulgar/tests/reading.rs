@@ -1,8 +1,9 @@
 //! The reading half of the wrapper against a model of document 01, on sound blocks, damaged blocks and changed memory.
 mod model;
 
-use idzulgar::calls::{self, ReaderRecord};
+use idzulgar::calls::{self, Given, ReaderRecord};
 use idzulgar::{Batch, Column, Encoding, Kind, Reader, Refusal, Row, Value};
+use model::reads::{self, Areas};
 use model::Chance;
 
 fn read_all(column: Column, n: u64, block: &[u8]) -> Result<Vec<Value>, Refusal> {
@@ -35,29 +36,27 @@ fn any_calls_answer_as_the_rows_tell() {
         for _ in 0..12 {
             let left = rows.len() - place;
             assert_eq!(reader.remaining(), Ok(left as u64));
-            if chance.one_in(3) {
-                let skip = chance.below(left as u64 + 3) as usize;
-                let answer = reader.skip(skip as u64);
-                if skip > left {
-                    assert_eq!(answer, Err(Refusal::TooFar));
-                } else {
-                    assert_eq!(answer, Ok(()));
-                    place += skip;
-                }
-                continue;
-            }
-            let size = chance.below(16) as usize;
-            let next = &rows[place..place + size.min(left)];
-            let bytes: usize = next.iter().map(|row| if let Value::Bytes(bytes) = row { bytes.len() } else { 0 }).sum();
-            let answer = reader.batch(size, &mut batch);
-            if size == 0 {
-                assert_eq!(answer, Err(Refusal::NoRows));
-            } else if next.len() > 12 || bytes > 200 {
-                assert_eq!(answer, Err(Refusal::Room));
+            let skip = if chance.one_in(2) { 0 } else { chance.below(left as u64 + 3) as usize };
+            let size = if chance.one_in(4) { 0 } else { chance.below(16) as usize };
+            let behind = rows.get(place + skip..).unwrap_or(&[]);
+            let next = &behind[..size.min(behind.len())];
+            let due = if skip == 0 && size == 0 {
+                Err(Refusal::NoRows)
+            } else if skip > left {
+                Err(Refusal::TooFar)
+            } else if next.len() > 12 || reads::weight(next) > 200 {
+                Err(Refusal::Room)
             } else {
-                assert_eq!(answer, Ok(next.len()));
-                assert_eq!(batch.iter().map(Value::from).collect::<Vec<_>>(), next);
-                place += next.len();
+                Ok(next.len())
+            };
+            let had: Vec<Value> = batch.iter().map(Value::from).collect();
+            assert_eq!(reader.read(skip as u64, size, &mut batch), due, "{column:?} {rows:?} at {place}: {skip}, {size}");
+            let has: Vec<Value> = batch.iter().map(Value::from).collect();
+            if due.is_ok() {
+                assert_eq!(has, next);
+                place += skip + next.len();
+            } else {
+                assert_eq!(has, had);
             }
         }
     }
@@ -87,27 +86,18 @@ fn damaged_blocks_get_the_number_of_document_01() {
     }
 }
 
-/// Areas with known contents, to see what a call leaves.
-#[derive(Clone, Debug, PartialEq)]
-struct Areas {
-    values: Vec<i64>,
-    flags: Vec<u8>,
-    ends: Vec<u32>,
-    bytes: Vec<u8>,
-}
-
-fn areas(rows: usize, bytes: usize) -> Areas {
-    Areas { values: vec![77; rows], flags: vec![77; rows], ends: vec![77; rows], bytes: vec![77; bytes] }
-}
-
-fn batch(reader: ReaderRecord, block: &[u8], size: usize, areas: &mut Areas) -> calls::Given {
-    calls::batch(reader, block, size, &mut areas.values, &mut areas.flags, &mut areas.ends, &mut areas.bytes)
+/// A read, held to the model: its answer, and all that it leaves in the areas.
+fn read(reader: ReaderRecord, block: &[u8], skip: usize, size: usize, lent: &mut Areas) -> Given {
+    let (due, left) = reads::read(reader, block, skip, size, lent);
+    let given = calls::read(reader, block, skip, size, &mut lent.values, &mut lent.flags, &mut lent.ends, &mut lent.bytes);
+    assert_eq!((given, &*lent), (due, &left), "{skip}, {size} of {block:02X?} by {reader:?}");
+    given
 }
 
 #[test]
 fn memory_changed_between_calls_is_refused_or_read_and_nothing_is_written_by_a_refusal() {
     let mut chance = Chance::new(4);
-    let (mut refused, mut read) = (0, 0);
+    let mut seen = [0u32; 10];
     for round in 0..100_000 {
         let column = model::column(round % model::PAIRS, 1 + chance.below(5));
         let rows = model::some_rows(column.kind, 12, &mut chance);
@@ -122,27 +112,24 @@ fn memory_changed_between_calls_is_refused_or_read_and_nothing_is_written_by_a_r
             if chance.one_in(12) {
                 block.push(0);
             }
-            let mut lent = areas(chance.below(16) as usize, chance.below(100) as usize);
+            let mut lent = Areas::new(chance.below(16) as usize, chance.below(100) as usize);
             let before = lent.clone();
-            let answer = batch(reader, &block, chance.below(8) as usize, &mut lent);
+            let (skip, size) = (chance.below(4) as usize, chance.below(8) as usize);
+            let answer = read(reader, &block, skip, size, &mut lent);
+            seen[answer.number as usize] += 1;
             if answer.number == 0 {
-                read += 1;
                 assert_eq!(lent.flags[answer.rows..], before.flags[answer.rows..]);
-                assert_eq!(answer.reader.place, reader.place + answer.rows);
+                assert_eq!(answer.reader.place, reader.place + skip + answer.rows);
             } else {
-                refused += 1;
                 assert_eq!((answer.rows, answer.bytes, answer.reader), (0, 0, reader));
                 assert_eq!(lent, before);
             }
             reader = answer.reader;
-            let skipped = calls::skip(reader, &block, chance.below(3) as usize);
-            if skipped.number != 0 {
-                assert_eq!(skipped.reader, reader);
-            }
-            reader = skipped.reader;
         }
     }
-    assert!(refused > 10_000 && read > 10_000);
+    for number in [0, 4, 6, 7, 9] {
+        assert!(seen[number] > 5_000, "{number} was seen {} times", seen[number]);
+    }
 }
 
 #[test]
@@ -173,50 +160,81 @@ fn a_count_longer_than_needed_is_refused_at_each_place() {
     }
 }
 
+/// A number of any size, or a small one.
+fn some_number(chance: &mut Chance) -> usize {
+    let bits = chance.below(65);
+    if bits == 64 {
+        chance.below(6) as usize
+    } else {
+        (chance.number() >> bits) as usize
+    }
+}
+
+/// A record with any numbers, and bytes.
+fn forged(chance: &mut Chance) -> (ReaderRecord, Vec<u8>) {
+    let mut number = || some_number(chance);
+    let mut reader = ReaderRecord {
+        kind: number() % 13,
+        encoding: number() % 6,
+        width: number(),
+        rows: number(),
+        len: number(),
+        runs: number(),
+        counts: number(),
+        keys: number(),
+        entries: number(),
+        place: number(),
+        run: number(),
+        at: number(),
+        taken: number(),
+    };
+    if reader.kind != 8 {
+        reader.width = 0;
+    }
+    let block: Vec<u8> = (0..chance.below(40)).map(|_| chance.number() as u8).collect();
+    if chance.one_in(2) {
+        reader.len = block.len();
+        reader.place = 0;
+    }
+    (reader, block)
+}
+
+/// A block with its record, of which some fields have other numbers.
+fn altered(chance: &mut Chance) -> (ReaderRecord, Vec<u8>) {
+    let column = model::column(chance.below(model::PAIRS), 1 + chance.below(5));
+    let rows = model::some_rows(column.kind, 12, chance);
+    let block = model::block_of(column, &rows);
+    let (kind, encoding, width) = column.numbers();
+    let mut r = calls::open(kind, encoding, width, rows.len(), &block).reader;
+    for _ in 0..1 + chance.below(2) {
+        let fields = [&mut r.rows, &mut r.runs, &mut r.counts, &mut r.keys, &mut r.entries, &mut r.run, &mut r.at, &mut r.taken];
+        let field = chance.below(fields.len() as u64 + 2) as usize;
+        let number = if chance.one_in(6) { some_number(chance) } else { chance.below(8) as usize };
+        match fields.into_iter().nth(field) {
+            Some(field) => *field = number,
+            None => r.place = number,
+        }
+    }
+    (r, block)
+}
+
 #[test]
 fn forged_records_get_an_answer() {
     let mut chance = Chance::new(5);
-    let mut answered = 0;
-    for _ in 0..200_000 {
-        let mut number = || {
-            let bits = chance.below(65);
-            if bits == 64 {
-                chance.below(6) as usize
-            } else {
-                (chance.number() >> bits) as usize
-            }
-        };
-        let mut reader = ReaderRecord {
-            kind: number() % 13,
-            encoding: number() % 6,
-            width: number(),
-            rows: number(),
-            len: number(),
-            runs: number(),
-            counts: number(),
-            keys: number(),
-            entries: number(),
-            place: number(),
-            run: number(),
-            at: number(),
-            taken: number(),
-        };
-        if reader.kind != 8 {
-            reader.width = 0;
-        }
-        let block: Vec<u8> = (0..chance.below(40)).map(|_| chance.number() as u8).collect();
-        if chance.one_in(2) {
-            reader.len = block.len();
-            reader.place = 0;
-        }
-        let mut lent = areas(8, 64);
-        let given = batch(reader, &block, 8, &mut lent);
+    let mut seen = [0u32; 10];
+    for round in 0..200_000 {
+        let (reader, block) = if round % 2 == 0 { forged(&mut chance) } else { altered(&mut chance) };
+        let mut lent = Areas::new(chance.below(9) as usize, 64);
+        let skip = if chance.one_in(8) { usize::MAX } else { chance.below(5) as usize };
+        let given = read(reader, &block, skip, chance.below(9) as usize, &mut lent);
         let left = calls::remaining(reader);
-        assert!([0, 4, 9].contains(&given.number) && [0, 9].contains(&left.number));
+        assert!([0, 4, 6, 7, 9].contains(&given.number) && [0, 9].contains(&left.number));
         assert_eq!(left.reader, reader);
-        answered += (given.number == 0) as u32;
+        seen[given.number as usize] += 1;
     }
-    assert!(answered > 100);
+    for number in [0, 4, 6, 7, 9] {
+        assert!(seen[number] > 1_000, "{number} was seen {} times", seen[number]);
+    }
 }
 
 #[test]
@@ -224,26 +242,35 @@ fn a_refused_opening_leaves_a_record_that_every_call_refuses() {
     let answer = calls::open(0, 0, 0, 1, &[]);
     assert_eq!((answer.number, answer.reader.kind), (11, 255));
     assert_eq!(calls::remaining(answer.reader).number, 9);
-    assert_eq!(calls::skip(answer.reader, &[], 0).number, 9);
-    assert_eq!(batch(answer.reader, &[], 1, &mut areas(1, 1)).number, 9);
-    assert_eq!(batch(answer.reader, &[], 0, &mut areas(1, 1)).number, 6);
+    for (skip, size, number) in [(0, 0, 6), (1, 0, 9), (0, 1, 9), (1, 1, 9), (usize::MAX, usize::MAX, 9)] {
+        assert_eq!(read(answer.reader, &[], skip, size, &mut Areas::new(1, 1)).number, number, "{skip}, {size}");
+    }
     assert!(Reader::from_parts(&[0u8][..], answer.reader).is_err());
 }
 
+/// Document 01's sample A: i32, run-length, 7 7 7 -1.
+const SAMPLE_A: [u8; 18] = [2, 0, 0, 0, 2, 0, 0, 0, 3, 1, 7, 0, 0, 0, 255, 255, 255, 255];
+
+/// A read and its answer: rows to pass over, rows to give at most, the rows' integers.
+type Line<'a> = (u64, usize, Result<&'a [i64], Refusal>);
+
 #[test]
 fn sample_i() {
-    // document 01's sample A, read by skip 2, batch 1, batch 5, batch 5, skip 1
-    let block = [2, 0, 0, 0, 2, 0, 0, 0, 3, 1, 7, 0, 0, 0, 255, 255, 255, 255];
-    let mut reader = Reader::open(Column::new(Kind::I32, Encoding::RunLength), 4, block).unwrap();
-    let mut batch = Batch::new(Kind::I32, 5, 0).unwrap();
-    reader.skip(2).unwrap();
-    assert_eq!(reader.batch(1, &mut batch), Ok(1));
-    assert_eq!(batch.get(0), Some(Row::Int(7)));
-    assert_eq!(reader.batch(5, &mut batch), Ok(1));
-    assert_eq!(batch.get(0), Some(Row::Int(-1)));
-    assert_eq!(reader.batch(5, &mut batch), Ok(0));
-    assert!(batch.is_empty());
-    assert_eq!(reader.skip(1), Err(Refusal::TooFar));
+    let lines: [&[Line]; 2] = [
+        &[(2, 0, Ok(&[])), (0, 1, Ok(&[7])), (0, 5, Ok(&[-1])), (0, 5, Ok(&[])), (1, 0, Err(Refusal::TooFar))],
+        &[(2, 1, Ok(&[7])), (0, 5, Ok(&[-1])), (0, 5, Ok(&[])), (1, 0, Err(Refusal::TooFar))],
+    ];
+    for line in lines {
+        let mut reader = Reader::open(Column::new(Kind::I32, Encoding::RunLength), 4, SAMPLE_A).unwrap();
+        let mut batch = Batch::new(Kind::I32, 5, 0).unwrap();
+        for (skip, size, due) in line {
+            let answer = reader.read(*skip, *size, &mut batch);
+            assert_eq!(answer, due.map(<[i64]>::len), "{skip}, {size}");
+            assert_eq!(batch.values(), due.unwrap_or(&[]));
+            assert!(batch.iter().eq(batch.values().iter().map(|value| Row::Int(*value))));
+        }
+        assert_eq!(reader.remaining(), Ok(0));
+    }
 }
 
 #[test]
@@ -257,8 +284,13 @@ fn a_run_of_very_many_rows_is_skipped_at_once() {
     block.extend((0..=runs).map(|run| (run % 2) as u8));
     let n = 281_474_976_710_655;
     let mut reader = Reader::open(Column::new(Kind::Bool, Encoding::RunLength), n, block).expect("a sound block");
-    reader.skip(n - 1).unwrap();
-    assert_eq!(reader.rows().collect::<Result<Vec<_>, _>>(), Ok(vec![Value::Int(0)]));
+    let behind = |skip| reader.clone().rows_after(skip).collect::<Result<Vec<_>, _>>();
+    assert_eq!(behind(n - 1), Ok(vec![Value::Int(0)]));
+    assert_eq!(behind(n), Ok(vec![]));
+    assert_eq!(behind(n + 1), Err(Refusal::TooFar));
+    let mut batch = Batch::new(Kind::Bool, 2, 0).expect("memory for two rows");
+    assert_eq!(reader.read(n - 2, 2, &mut batch), Ok(2));
+    assert_eq!((batch.values(), reader.remaining()), (&[0, 0][..], Ok(0)));
 }
 
 #[test]

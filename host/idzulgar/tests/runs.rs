@@ -1,8 +1,9 @@
 //! Run counts of a byte each are taken in groups. Here every place of a group has a count that is none of those, against the model of
-//! document 01 and against sums by hand: at opening, in skips to each side of it, and in bytes that change after opening.
+//! document 01 and against sums by hand: at opening, in reads that pass over rows up to each side of it, and in bytes that change after
+//! opening.
 mod model;
 
-use idzulgar::calls;
+use idzulgar::calls::{self, Given, ReaderRecord};
 use idzulgar::{Batch, Column, Encoding, Kind, Reader, Refusal, Row};
 
 /// Numbers of runs around those of one group and of more.
@@ -52,11 +53,9 @@ fn starts_of(runs: usize, place: usize, count: u64) -> Vec<u64> {
     starts
 }
 
-/// A skip, and the row that is read behind it: its run.
+/// The row that is read behind some others: its run.
 fn run_behind(reader: &Reader<&[u8]>, rows: u64, batch: &mut Batch) -> Option<i64> {
-    let mut reader = reader.clone();
-    reader.skip(rows).expect("so many rows are left");
-    let given = reader.batch(1, batch).expect("a sound block");
+    let given = reader.clone().read(rows, 1, batch).expect("so many rows are left");
     let row = batch.iter().next();
     assert_eq!(given, row.is_some() as usize);
     row.map(|row| if let Row::Int(run) = row { run } else { panic!("a row that is no integer: {row:?}") })
@@ -112,6 +111,11 @@ fn an_odd_count_at_each_place() {
     assert!(opened > 5_000 && refused > 20_000, "{opened} {refused}");
 }
 
+/// A read that passes over rows and gives some, of which each is one value and one flag.
+fn pass(reader: ReaderRecord, block: &[u8], rows: u64, size: usize) -> Given {
+    calls::read(reader, block, rows as usize, size, &mut [0; 1], &mut [0; 1], &mut [], &mut [])
+}
+
 #[test]
 fn a_count_that_changes_at_each_place() {
     let column = Column::new(Kind::I16, Encoding::RunLength);
@@ -125,18 +129,23 @@ fn a_count_that_changes_at_each_place() {
                 let mut block = sound.clone();
                 block[8 + place] = byte;
                 // up to the count that changed all is as it was, and past it nothing is
-                let before = calls::skip(reader, &block, starts[place] as usize);
-                assert_eq!((before.number, before.reader.run, before.reader.place), (0, place, starts[place] as usize));
-                for rows in [starts[place] + 1, starts[place + 1], starts[runs]] {
-                    let past = calls::skip(reader, &block, rows as usize);
-                    // a byte that goes on into the next count is another count, which may be a good one
-                    let goes_on = byte != 0 && place + 1 < runs;
-                    assert!(
-                        past.number == 9 && past.reader == reader || goes_on && past.number == 0,
-                        "{rows} of {block:02X?}: {past:?}"
-                    );
+                if place > 0 {
+                    let before = pass(reader, &block, starts[place], 0);
+                    assert_eq!((before.number, before.reader.run, before.reader.place), (0, place, starts[place] as usize));
+                    assert_eq!(pass(reader, &block, starts[place] - 1, 1), Given { rows: 1, ..before });
                 }
-                assert_eq!(calls::skip(reader, &block, starts[runs] as usize + 1).number, Refusal::TooFar.number());
+                for rows in [starts[place] + 1, starts[place + 1], starts[runs]] {
+                    // the last of these rows passed over, or given
+                    for past in [pass(reader, &block, rows, 0), pass(reader, &block, rows - 1, 1)] {
+                        // a byte that goes on into the next count is another count, which may be a good one
+                        let goes_on = byte != 0 && place + 1 < runs;
+                        assert!(
+                            past.number == 9 && past.reader == reader || goes_on && past.number == 0,
+                            "{rows} of {block:02X?}: {past:?}"
+                        );
+                    }
+                }
+                assert_eq!(pass(reader, &block, starts[runs] + 1, 0).number, Refusal::TooFar.number());
             }
         }
     }

@@ -118,7 +118,7 @@ fn text_goes_in_as_text_and_comes_back_as_text() {
         let values: Vec<Value> = reader.clone().rows().collect::<Result<_, _>>().unwrap();
         assert_eq!(values.iter().map(Value::text).collect::<Vec<_>>(), due, "{column:?}");
         let mut batch = Batch::new(column.kind, 9, 64).unwrap();
-        assert_eq!(reader.batch(9, &mut batch), Ok(9));
+        assert_eq!(reader.read(0, 9, &mut batch), Ok(9));
         assert_eq!(batch.iter().map(Row::text).collect::<Vec<_>>(), due, "{column:?}");
     }
 }
@@ -138,7 +138,7 @@ fn what_has_become_no_text_is_handed_out_and_said_to_be_none() {
 
         let mut reader = Reader::from_parts(&block[..], record).unwrap();
         let mut batch = Batch::new(column.kind, 4, 64).unwrap();
-        assert_eq!(reader.batch(4, &mut batch), Ok(4), "{column:?}");
+        assert_eq!(reader.read(0, 4, &mut batch), Ok(4), "{column:?}");
         assert_eq!(batch.get(0), Some(Row::Bytes(b"a\xC3\xFF")));
         assert_eq!(batch.iter().map(|row| row.text().is_some()).collect::<Vec<_>>()[2..], [true, true]);
         assert_eq!(batch.get(0).and_then(Row::text), None);

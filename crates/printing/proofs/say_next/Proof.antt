@@ -1,4 +1,4 @@
--- `say_next` meets its contract: what comes back is the batch's answer. Assumes nothing.
+-- `say_next` meets its contract: what comes back is the read's answer. Assumes nothing.
 use lib.IntN.{pos}
 use lib.ListN.{length}
 use mathlib.Core.Path.{_≡_}
@@ -8,23 +8,23 @@ use Rattle.printing.proofs.RowsListed as laws
 use Rattle.printing.proofs.say_next.Statement.{statement}
 use Rattle.printing.proofs.say_next.Tie as tie
 
-abbrev start : tie.After-batch → tie.Start
+abbrev start : tie.After-read → tie.Start
 start c = c .before .before .before .before .before .before .before .before
 
-answered : (c : tie.After-batch) → let a = start c .args in c .batch .result ≡ nextRow (a .reader) (a .block .now) (length (a .bytes .now))
-answered c = let a = start c .args in laws.next-row (a .reader) (a .block .now) (pos 0) 0 0 (a .bytes .now) (c .batch .ensures .0)
+answered : (c : tie.After-read) → let a = start c .args in c .read .result ≡ nextRow (a .reader) (a .block .now) (length (a .bytes .now))
+answered c = let a = start c .args in laws.next-row (a .reader) (a .block .now) (pos 0) 0 0 (a .bytes .now) (c .read .ensures .0)
 
-slice-aggregate-batch : tie.Need-slice-aggregate-batch
-slice-aggregate-batch c = search needs
+slice-aggregate-read : tie.Need-slice-aggregate-read
+slice-aggregate-read c = search needs
 
-slice-aggregate-batch-2 : tie.Need-slice-aggregate-batch-2
-slice-aggregate-batch-2 c = search needs
+slice-aggregate-read-2 : tie.Need-slice-aggregate-read-2
+slice-aggregate-read-2 c = search needs
 
-slice-aggregate-batch-3 : tie.Need-slice-aggregate-batch-3
-slice-aggregate-batch-3 c = search needs
+slice-aggregate-read-3 : tie.Need-slice-aggregate-read-3
+slice-aggregate-read-3 c = search needs
 
-batch-requires : tie.Need-batch-requires
-batch-requires c κs = search needs
+read-requires : tie.Need-read-requires
+read-requires c κs = search needs
 
 say-refused-requires : tie.Need-say-refused-requires
 say-refused-requires c κs = search needs
@@ -65,10 +65,10 @@ pub say-next-spec : {M : Type 1} → statement M
 say-next-spec =
     tie.close
     (tie.spec
-    slice-aggregate-batch
-    slice-aggregate-batch-2
-    slice-aggregate-batch-3
-    batch-requires
+    slice-aggregate-read
+    slice-aggregate-read-2
+    slice-aggregate-read-3
+    read-requires
     say-refused-requires
     same-length
     returns

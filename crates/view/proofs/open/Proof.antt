@@ -45,7 +45,7 @@ use denote.Triple.Clauses.{Lasts, ensured, lasts}
 use denote.Triple.Table.{entered, cited}
 use denote.Triple.Walked.{Stays, walkOf, AllGo, Walks, ends-at, walked, walk-meets}
 use denote.Signature.{Slot, plain, namedLft}
-use Rattle.block.specs.Reading.{Areas, Batch, areas, opened, skipped, batched, remaining, openingOf}
+use Rattle.block.specs.Reading.{Areas, Batch, areas, opened, remaining, openingOf}
 use Rattle.walk.proofs.Said.{stays-said, fits-said, goes-said}
 use Rattle.block.specs.declared.Reader.{Reader}
 use Rattle.block.proofs.Reader as P

@@ -1,4 +1,4 @@
--- `view::read` meets its contract: the three answers, one after the other, come to the definition. Assumes nothing.
+-- `view::read` meets its contract: the two answers, one after the other, come to the definition. Assumes nothing.
 use Rattle.block.specs.Reading.{areas}
 use Rattle.view.proofs.Refusals.{read-told}
 use borrow.Author.Needs.{needs}
@@ -9,31 +9,24 @@ use Rattle.view.proofs.read.Lts as lts
 use Rattle.in_turn.proofs.first_refusal.Reads as first-refusal-reads
 use Rattle.view.proofs.go_through.Reads as go-through-reads
 
--- src/lib.rt:192:9
 go-through-requires : tie.Need-go-through-requires
 go-through-requires c κs = search needs
 
--- src/lib.rt:205:9
 first-refusal-requires : tie.Need-first-refusal-requires
 first-refusal-requires c κs = search needs
 
--- src/lib.rt:173:1
 same-length : tie.Need-same-length
 same-length c = search needs
 
--- src/lib.rt:173:1
 same-length-2 : tie.Need-same-length-2
 same-length-2 c = search needs
 
--- src/lib.rt:173:1
 same-length-3 : tie.Need-same-length-3
 same-length-3 c = search needs
 
--- src/lib.rt:173:1
 same-length-4 : tie.Need-same-length-4
 same-length-4 c = search needs
 
--- src/lib.rt:173:1
 returns : tie.Need-returns
 returns c =
     read-told _ _ _ _ _ _ _ (areas _ _ _ _) (c .before .first-refusal .ensures)

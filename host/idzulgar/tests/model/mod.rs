@@ -1,6 +1,9 @@
-//! A reading of document 01 in plain Rust, for the tests: the block of a list of rows, opening's number, and the rows of a sound
-//! block. It is written from the document's words, takes no care for speed, and shares no code with the library.
+//! A reading of documents 01 and 02 in plain Rust, for the tests: the block of a list of rows, opening's number, the rows of a sound
+//! block, and a read's answer on any record and any bytes. It is written from the documents' words, takes no care for speed, and shares no
+//! code with the library.
 #![allow(dead_code)]
+
+pub mod reads;
 
 use idzulgar::{Column, Encoding, Kind, Value};
 

@@ -3,8 +3,8 @@
 //!     replay FOLDER [SEED]
 //!
 //! Writes FOLDER/stdin, the commands as crates/try_replay/src/main.rt takes them, and FOLDER/stdout, what the original answers: before each
-//! row and after the last whether to finish and the estimated size, the block, and the rows that skips and batches give. Nothing of
-//! the port is run here. Where the original panics nothing is stored.
+//! row and after the last whether to finish and the estimated size, the block, and the rows that reads give: a skip and then a batch, where
+//! the port has one call. Nothing of the port is run here. Where the original panics nothing is stored.
 use std::fmt::Write;
 
 use idzulgar::{Column, Encoding, Kind, Value};
@@ -12,7 +12,7 @@ use oracle::lists::{alphabet, crafted, judged_rows, Spelling};
 use oracle::model::{self, Chance};
 use oracle::{caught, padded};
 
-/// The rows that a batch of the program has room for, and the bytes of a block and of a batch's rows.
+/// The rows that a read of the program has room for, and the bytes of a block and of the rows that it gives.
 const MOST_ROWS: u64 = 300;
 const MOST_BYTES: usize = 4000;
 
@@ -117,14 +117,14 @@ impl Script {
 
     /// A block that no builder makes.
     fn give(&mut self, block: &[u8]) {
-        self.number(6);
+        self.number(5);
         self.bytes(block);
         self.say(format_args!("given {:x}\n", block.len()));
         self.blocks += 1;
     }
 
-    /// The commands that read a block by skips and batches to its end, a little past it or for some calls, and the answers. The original
-    /// panics on some blocks that are sound (docs/DIFFERENCES.md): then nothing is stored, nor where the program has no room for a batch.
+    /// The commands that read a block to its end, at its end once more or for some calls, and the answers. The original panics on some
+    /// blocks that are sound (docs/DIFFERENCES.md): then nothing is stored, nor where the program has no room for the rows.
     fn read(&mut self, column: Column, n: u64, block: &[u8], chance: &mut Chance) {
         let before = (self.commands.len(), self.answers.len(), self.calls);
         if caught(|| self.read_on(column, n, block, chance)) != Some(true) {
@@ -148,24 +148,27 @@ impl Script {
             if left == 0 && !chance.one_in(3) {
                 return true;
             }
-            if chance.one_in(3) {
-                let skip = if chance.one_in(5) { chance.below(left + 1) } else { chance.below(left.min(6) + 1) };
-                original.skip(skip as usize);
-                self.number(4);
-                self.number(skip);
-                self.say(format_args!("skip {skip:x}"));
-            } else {
-                let size = 1 + if chance.one_in(6) { chance.below(MOST_ROWS) } else { chance.below(6) };
-                let given = original.batch(size as usize, &mut rows);
-                if weight(&rows) > MOST_BYTES {
-                    return false;
-                }
-                self.number(5);
-                self.number(size);
-                self.say(format_args!("batch {given:x}:"));
-                for row in &rows {
-                    self.say_row(row);
-                }
+            // rows to pass over, rows to give, or both
+            let skip = match chance.below(10) {
+                0 => chance.below(left + 1),
+                1..=4 => chance.below(left.min(6) + 1),
+                _ => 0,
+            };
+            let size = match chance.below(6) {
+                0 | 1 if skip > 0 => 0,
+                2 => 1 + chance.below(MOST_ROWS),
+                _ => 1 + chance.below(6),
+            };
+            let given = original.read(skip as usize, size as usize, &mut rows);
+            if weight(&rows) > MOST_BYTES {
+                return false;
+            }
+            self.number(4);
+            self.number(skip);
+            self.number(size);
+            self.say(format_args!("read {given:x}:"));
+            for row in &rows {
+                self.say_row(row);
             }
             self.say(format_args!(" left {:x}\n", original.remaining()));
             self.calls += 1;
@@ -230,7 +233,7 @@ fn main() {
     std::fs::write(format!("{folder}/stdin"), &script.commands).expect("stdin is written");
     std::fs::write(format!("{folder}/stdout"), &script.answers).expect("stdout is written");
     println!(
-        "{} blocks, {} rows appended, {} skips and batches; {} bytes of commands, {} of answers",
+        "{} blocks, {} rows appended, {} reads; {} bytes of commands, {} of answers",
         script.blocks,
         script.rows,
         script.calls,

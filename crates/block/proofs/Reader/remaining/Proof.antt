@@ -1,7 +1,7 @@
 -- `block::Reader::remaining` meets its contract: each return by the law of the tests that led there. Assumes nothing.
 use borrow.Author.Needs.{needs}
 use Rattle.block.proofs.RecordTests.{place-within}
-use Rattle.block.proofs.SkipCases as laws
+use Rattle.block.proofs.RemainingCases as laws
 use Rattle.block.proofs.Reader.remaining.Statement.{statement}
 use Rattle.block.proofs.Reader.remaining.Tie as tie
 

@@ -1,5 +1,5 @@
-//! Reading. Each side reads into memory of its own kind: the port into lent areas, made once; the original into an array builder
-//! with room for the batch, made for each batch, as it has no way to empty one.
+//! Reading, with nothing passed over. Each side reads into memory of its own kind: the port into lent areas, made once; the original
+//! into an array builder with room for the batch, made for each batch, as it has no way to empty one.
 use std::hint::black_box;
 use std::time::Instant;
 
@@ -89,7 +89,7 @@ impl Case {
         let mut given = 0;
         loop {
             let answer =
-                calls::batch(reader, &self.block, size, &mut self.values, &mut self.flags, &mut self.ends, &mut self.bytes);
+                calls::read(reader, &self.block, 0, size, &mut self.values, &mut self.flags, &mut self.ends, &mut self.bytes);
             assert_eq!(answer.number, 0);
             if answer.rows == 0 {
                 return given;

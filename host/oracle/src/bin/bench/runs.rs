@@ -61,7 +61,7 @@ impl Case {
     fn read(&mut self, size: usize) -> usize {
         let (mut reader, mut given) = (self.reader, 0);
         loop {
-            let answer = calls::batch(reader, &self.block, size, &mut self.values, &mut self.flags, &mut [], &mut []);
+            let answer = calls::read(reader, &self.block, 0, size, &mut self.values, &mut self.flags, &mut [], &mut []);
             assert_eq!(answer.number, 0);
             if answer.rows == 0 {
                 return given;
@@ -75,7 +75,7 @@ impl Case {
     fn port(&mut self, call: &str) {
         match call {
             "opening" => _ = black_box(open(self.rows, &self.block)),
-            "one skip to the last row" => assert_eq!(calls::skip(self.reader, &self.block, self.rows - 1).number, 0),
+            "one skip to the last row" => pass(self.reader, &self.block, self.rows - 1),
             "read whole" => assert_eq!(self.read(self.rows), self.rows),
             _ => assert_eq!(self.read(1024), self.rows),
         }
@@ -144,6 +144,11 @@ fn longest() -> (ReaderRecord, Vec<u8>) {
     (calls::open(0, 2, 0, 281_474_976_710_655, &block).reader, block)
 }
 
+/// A read that gives no rows.
+fn pass(reader: ReaderRecord, block: &[u8], rows: usize) {
+    assert_eq!(calls::read(reader, block, rows, 0, &mut [], &mut [], &mut [], &mut []).number, 0);
+}
+
 fn pass_all(reader: ReaderRecord, block: &[u8]) {
-    assert_eq!(calls::skip(reader, block, 281_474_976_710_655).number, 0);
+    pass(reader, block, 281_474_976_710_655);
 }
