@@ -23,8 +23,9 @@
 extern "C" {
 #endif
 
-/* Which records and calls these are. In 1 the answers of idz_remaining, idz_finish, idz_estimate and idz_should_finish had no record. */
-#define IDZ_VERSION 2
+/* Which records and calls these are. In 1 the answers of idz_remaining, idz_finish, idz_estimate and idz_should_finish had no record. In
+ * 2 idz_reader had no count of nulls. */
+#define IDZ_VERSION 3
 
 /* What comes back. */
 enum {
@@ -69,11 +70,13 @@ enum {
 /* Encodings. */
 enum { IDZ_PLAIN = 0, IDZ_NULLABLE = 1, IDZ_RUN_LENGTH = 2, IDZ_RUN_LENGTH_NULLABLE = 3, IDZ_DICTIONARY = 4 };
 
-/* A reader: what opening was given and found at the block's head, and where reading stands. Copy it as you like: a copy goes on from
- * where the original stood. */
+/* A reader: what opening was given and found at the block's head, where reading stands, and how many nulls were given. Copy it as you
+ * like: a copy goes on from where the original stood. */
 typedef struct {
     size_t kind, encoding, width, rows, len, runs, counts, keys, entries;
     size_t place, run, at, taken;
+    size_t nulls; /* rows given since opening whose flag was 0; rows passed over aren't counted. A record in which it is above `place`
+                     contradicts itself. */
 } idz_reader;
 
 typedef struct {
@@ -137,7 +140,8 @@ idz_opening idz_open(size_t kind, size_t encoding, size_t width, size_t rows, co
  * have length 0.
  *
  * Fixed kinds write one i64 a row to `values`; char and blob write their bytes to `bytes`, one after another, and to `ends` where each
- * row's bytes end. `flags` gets 1 a row, 0 for a null, whose value is 0 or no bytes. Areas that the kind doesn't use may have length 0.
+ * row's bytes end. `flags` gets 1 a row, 0 for a null, whose value is 0 or no bytes; the reader counts these nulls. Areas that the kind
+ * doesn't use may have length 0.
  *
  * Refuses in this order: 6 if skip and size are both 0, whatever else is lent; 9 for another length of the block, or a record that
  * contradicts itself; 7 if skip is above the rows remaining; 9 for a field, which is a run count of a row passed over or given, or an end

@@ -24,6 +24,7 @@ MOST = 2**64 - 1
 MOST_ROWS = 2**48 - 1
 ITEMS = 2**20
 AREA = 0xaa  # what a lent area is filled with
+LENT = (400, 400, 64, 255)  # the most values, flags, ends and bytes that the program lends
 NO_READER = Reader(kind=255)
 
 
@@ -113,16 +114,20 @@ class Script:
 
     def read(self, skip, size, values=0, flags=0, ends=0, data=0, expect=None):
         self.command(2, skip, size, values, flags, ends, data)
-        assert max(values, flags, ends) <= 64 and data <= 255
+        assert all(n <= most for n, most in zip((values, flags, ends, data), LENT))
         areas = [[AREA] * n for n in (values, flags, ends, data)]
+        if flags == LENT[1]:
+            areas[1][-1] = 0  # where the rows end before it, it isn't a null
+        before = [area[:] for area in areas]
         rows, total, refusal = 0, 0, 0
         try:
             rows, total, after = model.read(self.reader, self.lent(), skip, size, *areas)
             self.compare_ways(skip + rows, after)
+            assert after.nulls == self.reader.nulls + areas[1][:rows].count(0)
             self.reader = after
         except Refused as e:
             refusal = e.number
-            assert all(x == AREA for area in areas for x in area)
+            assert areas == before
         assert [len(a) for a in areas] == [values, flags, ends, data]
         assert expect in (None, refusal), (expect, refusal)
         self.answer("read", refusal, rows, total, *self.reader.fields())
@@ -133,9 +138,10 @@ class Script:
         return refusal
 
     def compare_ways(self, n, after):
-        """The model's two ways through the runs agree."""
+        """The model's two ways through the runs agree. Neither counts nulls."""
         if n <= 4096:
-            assert model.run_by_run(self.reader, self.lent(), n)[1].fields() == after.fields()
+            passed = after.copy(nulls=self.reader.nulls)
+            assert model.run_by_run(self.reader, self.lent(), n)[1].fields() == passed.fields()
 
     def remaining(self, expect=None):
         self.command(3)
@@ -167,6 +173,10 @@ class Script:
         self.len = length
         self.answer("lend")
         self.calls["lend"] += 1
+
+    def counted(self, n):
+        """So many nulls were given since opening; in encodings 0 and 2 a row is never null."""
+        assert self.reader.nulls == (0 if self.reader.encoding in (0, 2) else n), (self.reader.nulls, n)
 
     # ---- sequences
 
@@ -206,12 +216,12 @@ class Script:
         for i, n in enumerate(rooms):
             if n:
                 self.read(skip, size, *(m - (i == j) for j, m in enumerate(rooms)), expect=4)
-        self.read(skip, size, *(min(n + 1, (64, 64, 64, 255)[i]) for i, n in enumerate(rooms)), expect=0)
+        self.read(skip, size, *(min(n + 1, most) for n, most in zip(rooms, LENT)), expect=0)
 
     def give_loose(self, size, skip=0):
         """A read into areas most of which hold what it gives."""
         rooms = [n + self.random.choice((0, 0, 0, 0, 1, 2, -1)) for n in self.rooms(skip, size)]
-        self.read(skip, size, *(min(max(n, 0), (64, 64, 64, 255)[i]) for i, n in enumerate(rooms)))
+        self.read(skip, size, *(min(max(n, 0), most) for n, most in zip(rooms, LENT)))
 
     def wander(self, steps):
         """Random calls."""
@@ -797,6 +807,60 @@ def run_two(s):
         s.give(2, skip=3, expect=0)
 
 
+def thin():
+    """Each encoding with three kinds, and rows of which half are null; two are 0 or have no bytes, and are there."""
+    for encoding in range(5):
+        for kind, width, item in ((I16, 0, 5), (CHAR, 2, b"ab"), (BY_ENDS[encoding % 2], 0, b"ab")):
+            none = type(item)()
+            yield kind, encoding, width, [None, item, item, None, None, none, None, none]
+
+
+def nulls_given(s):
+    """The count of nulls after rows that are given, passed over, or refused by each number."""
+    for kind, encoding, width, rows in thin():
+        s.load(model.build(kind, encoding, width, rows))
+        s.open(kind, encoding, width, 8, expect=0)
+        s.counted(0)
+        s.give(1, expect=0)
+        s.counted(1)
+        s.remaining(expect=0)
+        s.nothing()
+        s.lend(s.len - 1)
+        s.give(3, expect=9)
+        s.lend(s.len + 1)
+        s.give(1, skip=8, expect=7)
+        s.give_short(3, skip=1)
+        s.counted(3)
+        s.skip(2, expect=0)
+        s.counted(3)
+        s.give(MOST, expect=0)
+        s.give(1, expect=0)
+        s.counted(3)
+        s.again()
+        s.give(2, skip=3, expect=0)
+        s.counted(2)
+        s.again()
+        s.skip(8, expect=0)
+        s.counted(0)
+
+
+def many_nulls(s):
+    """More flags than are counted at a time, more nulls than a byte counts, and a 0 behind the flags that are written."""
+    s.load([(400, b"\1"), (49, b"\x2d"), (1, b"\xff"), (1, le4(50))])
+    s.open(0, 1, 0, 400, expect=0)
+    for n in (191, 192):
+        s.read(0, n, n, n, expect=0)
+    s.again()
+    s.read(7, 385, 400, 400, expect=0)
+    s.counted(1 + 48 * 4)
+    for encoding in (3, 4):
+        s.load(model.build(0, encoding, 0, [1] + [None] * 398 + [1]))
+        s.open(0, encoding, 0, 400, expect=0)
+        for skip, size in ((1, 193), (0, MOST)) if encoding == 3 else ((0, 399),):
+            s.read(skip, size, 399, 400, expect=0)
+        s.counted(398)
+
+
 def many_bytes(s):
     """More bytes than an answer can have."""
     for text, rows in (("FFFFFFFF0F", 2**32 - 1), ("FFFFFFFF07", 2**31 - 1), ("8080808008", 2**31)):
@@ -848,6 +912,15 @@ def most_rows(s):
         s.give_short(4, skip=MOST_ROWS - 65535 - 2)
         s.give(2, skip=65535 - 2 - 3, expect=0)
         s.give(MOST, expect=0)
+        # the largest count of nulls, and one more
+        s.again()
+        s.skip(MOST_ROWS - 2, expect=0)
+        s.set("nulls", MOST_ROWS - 2)
+        s.give(MOST, expect=0)
+        s.set("nulls", MOST_ROWS)
+        s.remaining(expect=0)
+        s.set("nulls", MOST_ROWS + 1)
+        s.remaining(expect=9)
         # a count on the way is damaged
         s.again()
         at = (20 if encoding == 4 else 8) + 5 * 40000
@@ -953,7 +1026,8 @@ def values_of(field, r):
         "place": {0, *near, r.rows, r.rows + 1},
         "run": {0, *near, r.runs, r.runs + 1},
         "at": {0, *near, r.counts, r.counts + 1},
-        "taken": {0, *near, here + 2, 2**32 - 1}}[field] if 0 <= n <= MOST and n != here)
+        "taken": {0, *near, here + 2, 2**32 - 1},
+        "nulls": {r.place - 1, r.place, r.place + 1, MOST}}[field] if 0 <= n <= MOST and n != here)
 
 
 def looked_at(field, encoding):
@@ -964,13 +1038,13 @@ def looked_at(field, encoding):
 
 def forged(s):
     """Each field of the reader set to other numbers, in the middle of a block: all of them for one kind in each encoding, a
-    sixth for the others, and the largest where the encoding doesn't look at the field."""
+    sixth for the others, and the largest where the encoding doesn't look at the field. The count of nulls is forged_nulls'."""
     for base, (kind, encoding, width, rows) in enumerate(bases()):
         s.load(model.build(kind, encoding, width, rows))
         s.open(kind, encoding, width, len(rows), expect=0)
         s.skip(3)
         middle = s.reader
-        for field in Reader.FIELDS:
+        for field in Reader.FIELDS[:-1]:
             values = values_of(field, middle)
             every = base % 3 == encoding % 3
             if not looked_at(field, encoding):
@@ -989,6 +1063,49 @@ def forged(s):
                 else:
                     s.again()
                     s.skip(3)
+
+
+def forged_nulls(s):
+    """The count of nulls below the place and at it is carried and added to; above it every call is refused, in every encoding."""
+    for base, (kind, encoding, width, rows) in enumerate(thin()):
+        if base % 3 != encoding % 3:
+            continue
+        s.load(model.build(kind, encoding, width, rows))
+        s.open(kind, encoding, width, 8, expect=0)
+        s.skip(3, expect=0)
+        for more, number in ((-1, 0), (0, 0), (1, 9), (MOST, 9)):
+            forged = min(s.reader.place + more, MOST)
+            s.set("nulls", forged)
+            s.remaining(expect=number)
+            s.nothing()
+            s.skip(MOST, expect=number or 7)
+            s.read(0, 1, expect=number or 4)
+            if number:
+                s.skip(1, expect=9)
+            s.give(1, expect=number)  # a null
+            assert s.reader.nulls == forged + (number == 0 and encoding in (1, 3, 4))
+        # carried by a skip, and above the place when that falls
+        s.set("nulls", 5)
+        s.skip(1, expect=0)
+        assert (s.reader.place, s.reader.nulls) == (6, 5)
+        s.set("place", 4)
+        s.remaining(expect=9)
+        s.give(1, expect=9)
+        s.set("place", 5)
+        s.remaining(expect=0)
+        s.give(MOST, expect=0 if encoding < 2 else 9)  # the runs have a row less than the place says
+        # at the end, and at the start
+        s.again()
+        s.skip(8, expect=0)
+        for forged, number in ((9, 9), (8, 0)):
+            s.set("nulls", forged)
+            s.remaining(expect=number)
+            s.give(1, expect=number)
+        s.again()
+        for forged, number in ((1, 9), (0, 0)):
+            s.set("nulls", forged)
+            s.remaining(expect=number)
+            s.skip(1, expect=number)
 
 
 def forged_heads(s):
@@ -1246,8 +1363,8 @@ def damaged_by_chance(s):
 
 
 SECTIONS = (samples, all_pairs, wide_chars, no_rows, rates, texts, refusals, cuts, spellings, longer_than_needed, sound_all_the_same, run_two,
-            many_bytes, most_rows, most_entries, most_items, forged, forged_heads, forged_lengths, damaged, nine_first,
-            skips_and_sizes, whole_or_not_at_all, forged_by_chance, damaged_by_chance)
+            nulls_given, many_nulls, many_bytes, most_rows, most_entries, most_items, forged, forged_nulls, forged_heads,
+            forged_lengths, damaged, nine_first, skips_and_sizes, whole_or_not_at_all, forged_by_chance, damaged_by_chance)
 
 
 def main():

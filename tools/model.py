@@ -236,7 +236,7 @@ def check_runs(inner, n, b):
 
 
 class Reader:
-    FIELDS = "kind encoding width rows len runs counts keys entries place run at taken".split()
+    FIELDS = "kind encoding width rows len runs counts keys entries place run at taken nulls".split()
 
     def __init__(self, **fields):
         for f in self.FIELDS:
@@ -291,6 +291,8 @@ def contradicts(r):
     if not known(r.kind, r.encoding, r.width):
         return True
     if r.len > 16777216 or r.rows > 2**48 - 1 or (r.encoding < 2 and r.rows > 1048576) or r.place > r.rows:
+        return True
+    if r.nulls > r.place:  # the place counts every row given
         return True
     if r.encoding >= 2 and (r.runs > 1048576 or r.run > r.runs):
         return True
@@ -414,7 +416,8 @@ def remaining(r):
 
 def read(r, b, skip, size, values, flags, ends, data):
     """Rows are passed over, and up to so many of those behind them given. What comes back is the rows and bytes given and the reader
-    after them; the areas (lists) are changed in place. A refusal is raised before anything is changed."""
+    after them, which has counted the nulls among those given; the areas (lists) are changed in place. A refusal is raised before
+    anything is changed."""
     if skip == 0 and size == 0:
         raise Refused(6)
     if contradicts(r) or len(b) != r.len:
@@ -441,4 +444,4 @@ def read(r, b, skip, size, values, flags, ends, data):
             at += len(x or b"")
             ends[i] = at
     flags[:n] = [int(x is not None) for x in rows]
-    return n, total, after
+    return n, total, after.copy(nulls=r.nulls + rows.count(None))

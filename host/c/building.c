@@ -130,7 +130,7 @@ static void refused(void) {
 }
 
 int main(void) {
-    expect(IDZ_VERSION == 2, "the header's version");
+    expect(IDZ_VERSION == 3, "the header's version");
     run_length();
     dictionary();
     floats();

@@ -103,6 +103,15 @@ static void nothing(int kind, int encoding, size_t width) {
     }
 }
 
+/* The nulls among some rows by their flags. */
+static size_t nulls_by(const uint8_t *flags, size_t rows) {
+    size_t nulls = 0;
+    for (size_t row = 0; row < rows; row++) {
+        nulls += flags[row] == 0;
+    }
+    return nulls;
+}
+
 /* Reads a block of these rows in every choice of areas, with no row passed over and with one, and passes over one alone. */
 static void read_back(int kind, int encoding, size_t width, size_t rows, const uint8_t *block, size_t len) {
     static const size_t calls[][2] = {{0, 4}, {1, 4}, {1, 0}};
@@ -118,6 +127,7 @@ static void read_back(int kind, int encoding, size_t width, size_t rows, const u
             idz_given other = read_rows(opening.reader, block, len, skip, size, missing, &elsewhere);
             expect(one.number == other.number && one.rows == other.rows && one.bytes == other.bytes, "a read's answer", kind, encoding);
             expect(same_reader(one.reader, other.reader) && same_memory(after), "what a read leaves", kind, encoding);
+            expect(one.reader.nulls == nulls_by(after.given_flags, one.rows), "its count of nulls", kind, encoding);
             memory = before;
             if (size == 0) {
                 expect(one.number == (rows == 0 ? IDZ_TOO_FAR : IDZ_DONE) && one.rows == 0, "a row passed over", kind, encoding);

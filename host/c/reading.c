@@ -112,6 +112,38 @@ static void variable(void) {
     expect(given.number == IDZ_DONE && given.rows == 3 && memcmp(bytes, "abc", 3) == 0, "and doesn't matter in one passed over");
 }
 
+/* The reader counts the nulls among the rows that it gave. */
+static void nulls(void) {
+    idz_reader start = idz_open(IDZ_BLOB, IDZ_DICTIONARY, 0, 4, sample_b, sizeof sample_b).reader;
+    expect(start.nulls == 0, "none at opening");
+    idz_reader reader = read_rows(start, sample_b, sizeof sample_b, 0, 1).reader;
+    expect(reader.nulls == 0, "none in the first row of sample B");
+    reader = read_rows(reader, sample_b, sizeof sample_b, 0, 2).reader;
+    expect(reader.nulls == 1, "one in the next two");
+    expect(refuses(read_rows(reader, sample_b, sizeof sample_b, 2, 1), IDZ_TOO_FAR, reader), "a refusal leaves the count");
+    reader = read_rows(reader, sample_b, sizeof sample_b, 0, 4).reader;
+    expect(reader.place == 4 && reader.nulls == 1, "which is of all rows since opening");
+    expect(read_rows(start, sample_b, sizeof sample_b, 2, 2).reader.nulls == 0, "a null that is passed over isn't counted");
+    expect(read_rows(start, sample_b, sizeof sample_b, 1, 3).reader.nulls == 1, "one behind the rows passed over is");
+    idz_reader fixed = idz_open(IDZ_I32, IDZ_RUN_LENGTH, 0, 4, sample_a, sizeof sample_a).reader;
+    expect(read_rows(fixed, sample_a, sizeof sample_a, 0, 4).reader.nulls == 0, "sample A has none");
+
+    /* any count can stand in a record, and is held against the rows given and passed over */
+    idz_reader forged = read_rows(start, sample_b, sizeof sample_b, 1, 0).reader;
+    forged.nulls = 1;
+    expect(idz_remaining(forged).number == IDZ_DONE, "a count of 1 behind one row may be");
+    expect(read_rows(forged, sample_b, sizeof sample_b, 0, 1).reader.nulls == 2, "and the next null is added to it");
+    forged.nulls = 2;
+    idz_left left = idz_remaining(forged);
+    expect(left.number == IDZ_DISAGREE && left.rows == 0 && same(left.reader, forged), "a count of 2 is 9");
+    expect(refuses(read_rows(forged, sample_b, sizeof sample_b, 0, 1), IDZ_DISAGREE, forged), "to a read too");
+    expect(refuses(read_rows(forged, sample_b, sizeof sample_b, 4, 0), IDZ_DISAGREE, forged), "before 7");
+    expect(refuses(read_rows(forged, sample_b, sizeof sample_b, 0, 0), IDZ_NO_ROWS, forged), "and behind 6");
+    fixed.nulls = SIZE_MAX;
+    expect(refuses(read_rows(fixed, sample_a, sizeof sample_a, 0, 1), IDZ_DISAGREE, fixed), "where there are no nulls too");
+    expect(offsetof(idz_reader, nulls) + sizeof(size_t) == sizeof(idz_reader), "the count is the record's last field");
+}
+
 static void refused(void) {
     uint8_t unknown[sizeof sample_b];
     memcpy(unknown, sample_b, sizeof unknown);
@@ -166,6 +198,7 @@ int main(void) {
     fixed();
     whole();
     variable();
+    nulls();
     refused();
     longer_than_needed();
     texts();

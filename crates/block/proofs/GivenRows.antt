@@ -1,13 +1,14 @@
 -- What the rows written into the areas answer for a read. Assumes nothing.
 use Prim.Native.Nat.{ℕ, _<_}
-use mathlib.Core.Path.{_≡_, refl, ap, _∙_}
+use mathlib.Core.Path.{_≡_, refl, sym, ap, _∙_}
 use mathlib.Core.Bool.{Bool, true, false, cond}
 use mathlib.Core.List.{List, [], _∷_, map}
 use lib.Dec.{eqb}
 use lib.IntN.{ℤ}
-use lib.ListN.{length, length-map}
+use lib.ListN.{length, take, length-map}
 use Rattle.limits.specs.Refusals.{ROOM, DISAGREE}
 use Rattle.encode.specs.declared.Kind.{Kind}
+use Rattle.zeros.specs.Zeros.{zerosIn}
 use Rattle.plain.specs.Rows.{Row}
 use Rattle.plain.specs.Plain.{allOf}
 use Rattle.rle.specs.declared.Spot.{Spot}
@@ -24,9 +25,10 @@ use Rattle.fill.specs.Areas.{Areas, short, filledIn, givenBytes}
 use Rattle.fill.specs.Filling.{Filling, refusedFilling, nextBy, writeRows, fillingBy, filling}
 use Rattle.block.specs.declared.Reader.{Reader}
 use Rattle.block.specs.declared.Given.{Given}
-use Rattle.block.specs.Reading.{nextSteps, moved, Batch, refusedBatch, give, batchOf}
+use Rattle.block.specs.Reading.{nextSteps, moved, counted, nullsIn, Batch, refusedBatch, give, batchOf}
 use Rattle.block.specs.Spots.{startOf, spotBy, movedBy}
 use Rattle.block.proofs.NextRows.{respot, Served}
+use Rattle.block.proofs.GivenNulls.{flags-back}
 
 -- ---- an answer with its four areas
 abbrev pub BatchTold : Given → List ℤ → List ℕ → List ℕ → List ℕ → Batch → Type 0
@@ -45,7 +47,7 @@ told g h e =
 -- ---- what is written is handed on
 abbrev pub handed-rows : Reader → Bool → ℕ → Filling → Batch
 handed-rows r coded n f = record {
-  answer = record { number = 0; rows = n; bytes = f .answer .bytes; reader = movedBy coded r n (f .answer .next) };
+  answer = record { number = 0; rows = n; bytes = f .answer .bytes; reader = counted (movedBy coded r n (f .answer .next)) (zerosIn (take n (f .areas .flags))) };
   areas = f .areas;
 }
 
@@ -63,21 +65,34 @@ filled-rows k rs t a = record { answer = record { number = 0; bytes = givenBytes
 
 abbrev given-rows : Kind → Reader → List Row → Spot → Areas → Batch
 given-rows k r rs t a = record {
-  answer = record { number = 0; rows = length rs; bytes = givenBytes k rs; reader = moved r (length rs) t };
+  answer = record { number = 0; rows = length rs; bytes = givenBytes k rs; reader = counted (moved r (length rs) t) (nullsIn rs) };
   areas = filledIn k rs a;
 }
 
 give-handed :
     (k : Kind) (r : Reader) (from : Spot) (coded : Bool) (n : ℕ) (rs : List Row) (t : Spot) (a : Areas) → length rs ≡ n
     → give k r rs (spotBy coded r t) a ≡ handed-on r coded n (writeRows k from rs (nextBy coded from t) a)
-unfolding give writeRows
+unfolding give writeRows nullsIn
 give-handed k r from coded n rs t a long = go (short k rs a)
   where
+    fs : List ℕ
+    fs = filledIn k rs a .flags
+
+    -- so many rows and nulls, and a reader behind the rows
+    answer : ℕ → Reader → ℕ → Batch
+    answer m y nulls = record {
+      answer = record { number = 0; rows = m; bytes = givenBytes k rs; reader = counted y nulls };
+      areas = filledIn k rs a;
+    }
+
     go : (x : Bool)
         → cond x (refusedBatch ROOM r a) (given-rows k r rs (spotBy coded r t) a)
         ≡ handed-on r coded n (cond x (refusedFilling ROOM from a) (filled-rows k rs (nextBy coded from t) a))
     go true = refl
-    go false = rw (long, moved-on r from coded n t)
+    go false =
+        ap (λ (xs : List ℕ). answer (length rs) (moved r (length rs) (spotBy coded r t)) (zerosIn xs)) (sym (flags-back k rs a))
+        ∙ ap (λ (m : ℕ). answer m (moved r m (spotBy coded r t)) (zerosIn (take m fs))) long
+        ∙ ap (λ (y : Reader). answer n y (zerosIn (take n fs))) (moved-on r from coded n t)
 
 -- ---- the rows of the parts are those of the definition
 module _ (f g : ℕ → Bool) (m : ℕ) (same : (i : ℕ) → i < m → f i ≡ g i) where

@@ -3,6 +3,7 @@ pub mod RecordTests
 pub mod RemainingCases
 pub mod NextRows
 pub mod MovedReader
+pub mod GivenNulls
 pub mod GivenRows
 pub mod ReadRows
 pub mod ReadTests

@@ -46,5 +46,6 @@ module _ (k : Kind) (r : Reader) (b : List ℕ) (n : ℕ) {is : List ℕ} {t : S
       let g = w .numbers in
       record {
         place = omega (arith, w .place);
+        nulls = omega (arith, w .nulls);
         numbers = record { size = g .size; rows = g .rows; head = head-kept e w q; parts = g .parts };
       }

@@ -6,11 +6,12 @@ use mathlib.Core.Path.{_≡_, refl, sym, ap, subst, _∙_}
 use mathlib.Core.Bool.{Bool, true, false, not}
 use mathlib.Core.List.{List}
 use lib.IntN.{ℤ}
-use lib.ListN.{length}
+use lib.ListN.{length, take}
 use borrow.Author.Tests.{eq-eqb, ne-eqb, not-true, not-false}
 use Rattle.limits.specs.Limits.{MOST_ITEMS}
 use Rattle.limits.specs.Refusals.{DISAGREE}
 use Rattle.encode.specs.declared.Kind.{Kind}
+use Rattle.zeros.specs.Zeros.{zerosIn}
 use Rattle.rle.specs.declared.Spot.{Spot}
 use Rattle.rle.specs.declared.Reached.{Reached}
 use Rattle.rle.specs.declared.Reached.the-variants.{At, Stuck}
@@ -27,11 +28,12 @@ use Rattle.fill.specs.Filling.{Filling, filling}
 use Rattle.fill.proofs.UnusedAreas.{AllTold}
 use Rattle.block.specs.declared.Reader.{Reader}
 use Rattle.block.specs.declared.Given.{Given}
-use Rattle.block.specs.Reading.{nextSteps, moved, Batch, refusedBatch, batchOf, upTo, whole, passThen, read}
-use Rattle.block.specs.Spots.{startOf, spotBy, movedBy}
+use Rattle.block.specs.Reading.{nextSteps, moved, counted, Batch, refusedBatch, batchOf, upTo, whole, passThen, read}
+use Rattle.block.specs.Spots.{startOf, spotBy, movedBy, nullsBy}
 use Rattle.block.proofs.RecordTests.{RightRecord, right, most-rows}
 use Rattle.block.proofs.NextRows.{respot, Served, served, serves}
 use Rattle.block.proofs.MovedReader.{moved-right}
+use Rattle.block.proofs.GivenNulls.{flags-fit, nulls-by-marks}
 use Rattle.block.proofs.GivenRows.{BatchTold, told, handed-on, batch-same, filling-kept}
 
 -- what the tests leave, where none refuses
@@ -180,10 +182,33 @@ module _
                 let j : filled .answer .number ≡ 0 → ⊥ = λ y. l (sym i ∙ y) in
                 all-told (rw (z, ← i, filling-kept p from b a (stepsBy p from b n) j) (sym (simp (ne-eqb _ 0 j)) ∙ all-of-it))
 
+            done-is : f .number ≡ 0 → filled .answer .number ≡ 0
+            done-is l = ap (λ (y : Filled). y .number) (sym (h .0)) ∙ l
+
+            -- what counting the nulls asks
+            pub flags-there : f .number ≡ 0 → n ≤ length fs
+            flags-there l = rw (h .1 .1 .0) (flags-fit p from b n a (done-is l))
+
+            -- and that it wraps no sum
+            pub nulls-fit : {nulls : ℕ} → nulls ≤ n → r .nulls + nulls < 2 ^ 64
+            nulls-fit g =
+                let w = s .right .nulls in
+                let q = s .right .place in
+                let x = s .right .numbers .rows in
+                let y = fits-there in
+                let m = most-rows e in
+                omega arith
+
             pub fill-done :
-                f .number ≡ 0 → {y : Reader} → y ≡ movedBy coded r (skip + n) (f .next)
+                f .number ≡ 0 → {nulls : ℕ} → nulls ≡ nullsBy (p .source .marks) (take n fs) → {y : Reader} → y ≡ counted (movedBy coded r (skip + n) (f .next)) nulls
                 → BatchTold (record { number = 0; rows = n; bytes = f .bytes; reader = y }) vs fs es bs (read r b skip size a)
             unfolding whole
-            fill-done l z =
-                let i : filled .answer .number ≡ 0 = ap (λ (y : Filled). y .number) (sym (h .0)) ∙ l in
-                all-told (rw (z, h .0, moved-twice r coded skip n from (filled .answer .next)) (sym (simp (eq-eqb _ 0 i)) ∙ all-of-it))
+            fill-done l {nulls} c {y} z =
+                let i = done-is l in
+                let q = c ∙ ap (λ (x : List ℕ). nullsBy (p .source .marks) (take n x)) (h .1 .1 .0) ∙ nulls-by-marks p from b n a i in
+                let there : y ≡ counted (movedBy coded behind n (filled .answer .next)) (zerosIn (take n (filled .areas .flags))) =
+                z
+                ∙ ap (λ (w : Filled). counted (movedBy coded r (skip + n) (w .next)) nulls) (h .0)
+                ∙ ap (λ (w : Reader). counted w nulls) (moved-twice r coded skip n from (filled .answer .next))
+                ∙ ap (counted (movedBy coded behind n (filled .answer .next))) q in
+                all-told (rw (there, h .0) (sym (simp (eq-eqb _ 0 i)) ∙ all-of-it))

@@ -39,15 +39,25 @@ module _ (k : Kind) (e : Encoding) (r : Reader) where
       unfolding wrong
       wrong-place h = rw (← g) (simp (le-ltb MOST_BYTES (r .len) h1, le-ltb m (r .rows) h2, lt-ltb (r .rows) (r .place) h))
 
-      module _ (h3 : r .place ≤ r .rows) {t : Bool} (n : t ≡ head-test) where
-        pub wrong-head : t ≡ true → true ≡ wrong k e r
+      module _ (h3 : r .place ≤ r .rows) where
+        pub wrong-nulls : r .place < r .nulls → true ≡ wrong k e r
         unfolding wrong
-        wrong-head h = rw (← g, ← n, h) (simp (le-ltb MOST_BYTES (r .len) h1, le-ltb m (r .rows) h2, le-ltb (r .rows) (r .place) h3))
+        wrong-nulls h =
+            rw (← g)
+            (simp (le-ltb MOST_BYTES (r .len) h1, le-ltb m (r .rows) h2, le-ltb (r .rows) (r .place) h3, lt-ltb (r .place) (r .nulls) h))
 
-        pub wrong-parts : t ≡ false → {o : Bool} → o ≡ part-test → o ≡ wrong k e r
-        unfolding wrong
-        wrong-parts h q =
-            q ∙ rw (← g, ← n, h) (simp (le-ltb MOST_BYTES (r .len) h1, le-ltb m (r .rows) h2, le-ltb (r .rows) (r .place) h3))
+        module _ (h4 : r .nulls ≤ r .place) {t : Bool} (n : t ≡ head-test) where
+          pub wrong-head : t ≡ true → true ≡ wrong k e r
+          unfolding wrong
+          wrong-head h =
+              rw (← g, ← n, h)
+              (simp (le-ltb MOST_BYTES (r .len) h1, le-ltb m (r .rows) h2, le-ltb (r .rows) (r .place) h3, le-ltb (r .place) (r .nulls) h4))
+
+          pub wrong-parts : t ≡ false → {o : Bool} → o ≡ part-test → o ≡ wrong k e r
+          unfolding wrong
+          wrong-parts h q =
+              q ∙ rw (← g, ← n, h)
+              (simp (le-ltb MOST_BYTES (r .len) h1, le-ltb m (r .rows) h2, le-ltb (r .rows) (r .place) h3, le-ltb (r .place) (r .nulls) h4))
 
   -- the parts are looked at only where the head is right
   pub parts-ask :
@@ -58,6 +68,7 @@ module _ (k : Kind) (e : Encoding) (r : Reader) where
 -- ---- a record that is right
 pub record RightRecord (k : Kind) (e : Encoding) (r : Reader) : Type 0 where
   pub place : r .place ≤ r .rows
+  pub nulls : r .nulls ≤ r .place
   pub numbers : Right k e (r .rows) (r .len) (r .head) (r .spot .run)
 
 pub right : (k : Kind) (e : Encoding) (r : Reader) → wrong k e r ≡ false → RightRecord k e r
@@ -65,10 +76,12 @@ unfolding wrong
 right k e r h =
     let a = neither _ (part-test k e r) h in
     let b = neither _ (head-test k e r) (a .0) in
-    let c = neither _ (ltb (r .rows) (r .place)) (b .0) in
+    let n = neither _ (ltb (r .place) (r .nulls)) (b .0) in
+    let c = neither _ (ltb (r .rows) (r .place)) (n .0) in
     let d = neither _ (ltb (mostRows e) (r .rows)) (c .0) in
     record {
       place = ltb-false (r .rows) (r .place) (c .1);
+      nulls = ltb-false (r .place) (r .nulls) (n .1);
       numbers = record {
         size = ltb-false MOST_BYTES (r .len) (d .0);
         rows = ltb-false (mostRows e) (r .rows) (d .1);

@@ -1,4 +1,4 @@
--- 01, "Reading", and 02 (iv): opening, read and remaining as functions of the record, the arguments, the block and what the lent areas hold, for every
+-- 01, "Reading", and 02 (iv) and (vii): opening, read and remaining as functions of the record, the arguments, the block and what the lent areas hold, for every
 -- record and every block. What is read is said row by row; anatomy has the tests of the numbers at a block's head, and fill the lent areas. Assumes nothing.
 use Prim.Native.Nat.{ℕ, zero, suc, _+_, _-_, min}
 use mathlib.Core.Bool.{Bool, cond, not, _&&_, _||_}
@@ -8,8 +8,10 @@ use lib.ListN.{length}
 use Rattle.limits.specs.Limits.{MOST_BYTES}
 use Rattle.limits.specs.Refusals.{ROOM, NO_ROWS, TOO_FAR, DISAGREE}
 use Rattle.encode.specs.declared.Kind.{Kind}
+use Rattle.zeros.specs.Zeros.{zerosIn}
 use Rattle.plain.specs.Rows.{Row}
 use Rattle.plain.specs.Plain.{allOf, places}
+use Rattle.nullable.specs.Nullable.{presence}
 use Rattle.rle.specs.declared.Spot.{Spot}
 use Rattle.rle.specs.Stepping.{spot, Steps, stuck, rows, stepsFrom}
 use Rattle.format.specs.declared.Encoding.{Encoding}
@@ -41,6 +43,7 @@ readerAt kind encoding width n len h = record {
   head = h;
   place = 0;
   spot = spot 0 0 0;
+  nulls = 0;
 }
 
 unfoldable pub headIn : Column → List ℕ → Head
@@ -70,6 +73,7 @@ wrong k e r =
     ltb MOST_BYTES (r .len)
     || ltb (mostRows e) (r .rows)
     || ltb (r .rows) (r .place)
+    || ltb (r .place) (r .nulls)
     || headWrong e (r .head) (r .spot .run)
     || partOutside k e (r .rows) (r .len) (r .head)
 
@@ -81,6 +85,7 @@ nextSteps RunLength r b n = stepsFrom (r .head .runs) (countsIn RunLength (r .he
 nextSteps RunLengthNullable r b n = stepsFrom (r .head .runs) (countsIn RunLengthNullable (r .head) b) n (r .spot)
 nextSteps Dictionary r b n = stepsFrom (r .head .runs) (countsIn Dictionary (r .head) b) n (r .spot)
 
+-- the reader behind n rows
 abbrev pub moved : Reader → ℕ → Spot → Reader
 moved r n t = record {
   kind = r .kind;
@@ -91,6 +96,21 @@ moved r n t = record {
   head = r .head;
   place = r .place + n;
   spot = t;
+  nulls = r .nulls;
+}
+
+-- and with so many nulls more among those that it gave
+abbrev pub counted : Reader → ℕ → Reader
+counted r n = record {
+  kind = r .kind;
+  encoding = r .encoding;
+  width = r .width;
+  rows = r .rows;
+  len = r .len;
+  head = r .head;
+  place = r .place;
+  spot = r .spot;
+  nulls = r .nulls + n;
 }
 
 -- ---- remaining: from the record alone, which goes back as it was given
@@ -113,12 +133,16 @@ pub record Batch : Type 0 where
 abbrev pub refusedBatch : ℕ → Reader → Areas → Batch
 refusedBatch e r a = record { answer = record { number = e; rows = 0; bytes = 0; reader = r }; areas = a }
 
--- rows given: 4 if the room is too short for all of them
+-- the nulls among some rows: their flags are 0
+unfoldable pub nullsIn : List Row → ℕ
+nullsIn rs = zerosIn (map presence rs)
+
+-- rows given: 4 if the room is too short for all of them; the nulls among them are counted
 unfoldable pub give : Kind → Reader → List Row → Spot → Areas → Batch
 give k r rs t a =
     cond (short k rs a) (refusedBatch ROOM r a)
     (record {
-      answer = record { number = 0; rows = length rs; bytes = givenBytes k rs; reader = moved r (length rs) t };
+      answer = record { number = 0; rows = length rs; bytes = givenBytes k rs; reader = counted (moved r (length rs) t) (nullsIn rs) };
       areas = filledIn k rs a;
     })
 

@@ -7,6 +7,10 @@ use Rattle.limits.specs.Refusals.{NO_ROWS, TOO_FAR, DISAGREE}
 use Rattle.format.specs.declared.Column.{Column}
 use Rattle.format.specs.declared.Column.the-variants.{Of, Unknown}
 use Rattle.format.specs.Blocks.{columnOf}
+use mathlib.Core.List.{List}
+use Rattle.zeros.specs.Zeros.{zerosIn}
+use Rattle.source.specs.declared.Marks.{Marks}
+use Rattle.source.specs.declared.Marks.the-variants.{Bare, Bits, Keys}
 use Rattle.rle.specs.declared.Spot.{Spot}
 use Rattle.rle.specs.Stepping.{spot}
 use Rattle.block.specs.declared.Reader.{Reader}
@@ -36,3 +40,9 @@ spotBy false r t = r .spot
 
 unfoldable pub movedBy : Bool → Reader → ℕ → Spot → Reader
 movedBy coded r n t = moved r n (spotBy coded r t)
+
+-- of rows with no marks none is null
+unfoldable pub nullsBy : Marks → List ℕ → ℕ
+nullsBy Bare flags = 0
+nullsBy Bits flags = zerosIn flags
+nullsBy Keys flags = zerosIn flags

@@ -8,7 +8,8 @@ ghost use Rattle.block.specs.Reading.{opened, openingOf};
 use format::Head;
 use rle::Spot;
 
-// A reader: what opening was given and found at the block's head, and where reading stands. Any numbers can stand here.
+// A reader: what opening was given and found at the block's head, where reading stands, and how many of the rows given were null. Any
+// numbers can stand here.
 #[repr(C)]
 pub struct Reader {
     pub kind: usize,
@@ -19,6 +20,7 @@ pub struct Reader {
     pub head: Head,
     pub place: usize,
     pub spot: Spot,
+    pub nulls: usize,
 }
 
 // What opening answers: a refused block has no reader.

@@ -12,18 +12,19 @@ use format::Head;
 use limits::refusal;
 use rle::Reached;
 use rle::Spot;
+use source::Marks;
 ghost use mathlib.Core.Path.{_≡_};
 ghost use mathlib.Core.Bool.{true};
 ghost use Prim.Native.Nat.{_+_, _≤_, _<_, _^_};
-ghost use lib.ListN.{length};
+ghost use lib.ListN.{length, take};
 ghost use Rattle.limits.specs.Limits.{MOST_ITEMS};
 ghost use Rattle.rle.specs.Pieces.{reached};
 ghost use Rattle.format.specs.Blocks.{columnOf};
 ghost use Rattle.anatomy.specs.Parts.{AllWithin};
 ghost use Rattle.part_rows.specs.PartRows.{stepsBy};
 ghost use Rattle.fill.specs.Areas.{areas};
-ghost use Rattle.block.specs.Reading.{readerAt, opened, noReader, wrong as contradicts, remaining as remainingOf, asksNothing, read as readOf};
-ghost use Rattle.block.specs.Spots.{startOf, movedBy, testsOf};
+ghost use Rattle.block.specs.Reading.{readerAt, opened, noReader, wrong as contradicts, remaining as remainingOf, counted, asksNothing, read as readOf};
+ghost use Rattle.block.specs.Spots.{startOf, movedBy, nullsBy, testsOf};
 
 // Opens a block of `rows` rows. The refusals come in the order of document 01.
 pub fn open(kind: usize, encoding: usize, width: usize, rows: usize, block: &[u8]) -> Opened
@@ -101,6 +102,18 @@ enum Tested {
     Refused(u8),
 }
 
+// The nulls among `n` rows whose flags are written: rows with no marks are there, so their flags aren't looked at.
+fn nulls_given(by: Marks, flags: &[u8], n: usize) -> usize
+    requires { ⌜ n ≤ length (now flags) ⌝ }
+    ensures { λ r. ⌜ (r ≡ nullsBy by (take n (now (flags .entry)))) × (r ≤ n) ⌝ }
+{
+    match by {
+        Marks::Bare => 0,
+        Marks::Bits => zeros::zeros(flags, n),
+        Marks::Keys => zeros::zeros(flags, n),
+    }
+}
+
 // A refused read leaves the reader where it is.
 fn refused(number: u8, reader: Reader) -> Given
     ensures { λ r. ⌜ r ≡ record { number = number; rows = 0; bytes = 0; reader = reader } ⌝ }
@@ -139,6 +152,7 @@ impl Reader {
             head,
             place: 0,
             spot,
+            nulls: 0,
         }
     }
 
@@ -161,6 +175,9 @@ impl Reader {
         if self.rows < self.place {
             return true;
         }
+        if self.place < self.nulls {
+            return true;
+        }
         if anatomy::head_wrong(encoding, self.head, self.spot.run) {
             return true;
         }
@@ -181,13 +198,14 @@ impl Reader {
         }
     }
 
-    // The reader `n` rows later.
-    fn moved(self, coded: bool, n: usize, t: Spot) -> Reader
-        requires { ⌜ self .place + n < 2 ^ 64 ⌝ }
-        ensures { λ r. ⌜ r ≡ movedBy coded self n t ⌝ }
+    // The reader `n` rows later, of which so many were null and given.
+    fn moved(self, coded: bool, n: usize, t: Spot, nulls: usize) -> Reader
+        requires { ⌜ (self .place + n < 2 ^ 64) × (self .nulls + nulls < 2 ^ 64) ⌝ }
+        ensures { λ r. ⌜ r ≡ counted (movedBy coded self n t) nulls ⌝ }
     {
         let mut next = self;
         next.place = self.place + n;
+        next.nulls = self.nulls + nulls;
         if coded {
             next.spot = t;
         }
@@ -276,11 +294,13 @@ impl Reader {
                 if filled.number != 0 {
                     return refused(filled.number, self);
                 }
+                let by = source.marks;
+                let nulls = nulls_given(by, flags, n);
                 Given {
                     number: 0,
                     rows: n,
                     bytes: filled.bytes,
-                    reader: self.moved(source.coded, skip + n, filled.next),
+                    reader: self.moved(source.coded, skip + n, filled.next, nulls),
                 }
             }
         }

@@ -32,7 +32,7 @@ present (Fixed p) m items i = refl
 present (Char w) m items i = refl
 present (Blob text) m items i = refl
 
-bare-flag : (s : Source) (marks items : List ℕ) → s .marks ≡ Bare → (i : ℕ) → flagBy s marks items i ≡ 1
+pub bare-flag : (s : Source) (marks items : List ℕ) → s .marks ≡ Bare → (i : ℕ) → flagBy s marks items i ≡ 1
 unfolding flagBy rowBy shownBy entryRow
 bare-flag s marks items e i = rw e (present (s .kind) (s .items) items i)
 

@@ -170,7 +170,7 @@ module _ (k : Kind) (e : Encoding) (n : ℕ) (b : List ℕ) where
   remains r is g = rw (g .column) (simp (not-wrong k e r (g .right)) (ap (λ (m : ℕ). left 0 m r) (sym (g .count))))
 
 -- ---- from the opening on
-open-told : (m : ℕ) (s r : Reader) → openedBy m s ≡ Open r → (m ≡ 0) × (s ≡ r)
+pub open-told : (m : ℕ) (s r : Reader) → openedBy m s ≡ Open r → (m ≡ 0) × (s ≡ r)
 unfolding openedBy
 open-told zero s r q = (refl, cc)
 open-told (suc m) s r q = let z : _≡_ {A = ℕ} 0 1 = cc in absurd (omega arith)

@@ -28,7 +28,7 @@ use Rattle.block.specs.declared.Reader.{Reader}
 use Rattle.block.specs.declared.Given.{Given}
 use Rattle.block.specs.declared.Opened.{Opened}
 use Rattle.block.specs.declared.Opened.the-variants.{Open, Refused}
-use Rattle.block.specs.Reading.{openedBy, opened, wrong, nextSteps, moved}
+use Rattle.block.specs.Reading.{openedBy, opened, wrong, nextSteps, moved, counted, nullsIn}
 use Rattle.block.specs.Reading.{Areas, areas, Batch, isBytes, short, filledIn, givenBytes, refusedBatch, give, batchOf, upTo, whole, passThen, readIn, asksNothing, read}
 use Rattle.block.specs.Calls.{Call, reading, Answer, gave, refused, handed, columnIn, readAnswer, answerTo, after, play, playOpened}
 use Rattle.soundness_laws.specs.Sound.{Sound}
@@ -113,7 +113,7 @@ module _ (r : Reader) (b : List ℕ) (a a′ : Areas) (room : SameRoom a a′) w
 
   -- the answer to rows given
   abbrev done : Kind → List Row → Spot → Given
-  done k rs t = record { number = 0; rows = length rs; bytes = givenBytes k rs; reader = moved r (length rs) t }
+  done k rs t = record { number = 0; rows = length rs; bytes = givenBytes k rs; reader = counted (moved r (length rs) t) (nullsIn rs) }
 
   same-values : (p : Primitive) (e : Encoding) (rs : List Row) (t : Spot)
       → SameBatch (Of (Fixed p) e) a a′ (record { answer = done (Fixed p) rs t; areas = filledIn (Fixed p) rs a })

@@ -11,6 +11,7 @@ use lib.ListN.{length}
 use borrow.Author.Tests.{le-ltb, ltb-false, ne-eqb}
 use Rattle.limits.specs.Refusals.{NO_ROWS, TOO_FAR, DISAGREE}
 use Rattle.encode.specs.declared.Kind.{Kind}
+use Rattle.zeros.specs.Zeros.{zerosIn}
 use Rattle.encode.proofs.Bools.{clash, neither, or-none}
 use Rattle.plain.specs.Plain.{allOf, places}
 use Rattle.rle.specs.Stepping.{Steps, stuck, rows, stepsFrom}
@@ -21,7 +22,7 @@ use Rattle.format.specs.declared.Column.{Column}
 use Rattle.format.specs.declared.Column.the-variants.{Of, Unknown}
 use Rattle.format.specs.Blocks.{columnOf}
 use Rattle.block.specs.declared.Reader.{Reader}
-use Rattle.block.specs.Reading.{wrong, nextSteps, moved}
+use Rattle.block.specs.Reading.{wrong, nextSteps, moved, counted, nullsIn}
 use Rattle.block.specs.Reading.{Areas, Batch, filledIn, givenBytes, refusedBatch, give, batchOf, upTo, whole, passThen, readIn, asksNothing, read}
 use Rattle.block.proofs.RecordTests.{right}
 use Rattle.block.proofs.MovedReader.{moved-right}
@@ -37,9 +38,13 @@ no-steps RunLength r b = refl
 no-steps RunLengthNullable r b = refl
 no-steps Dictionary r b = refl
 
--- a reader that goes past no rows stays where it is
+-- a reader that goes past no rows stays where it is, and gave no null
 stays : (r : Reader) → moved r 0 (r .spot) ≡ r
 stays r = rw (add-zero (r .place))
+
+stays-counted : (r : Reader) → counted (moved r 0 (r .spot)) (nullsIn []) ≡ r
+unfolding nullsIn zerosIn
+stays-counted r = rw (add-zero (r .place), add-zero (r .nulls))
 
 -- up to 0 rows is none, which are given whatever room there is
 abbrev none-given : Kind → Reader → Areas → Batch
@@ -50,7 +55,7 @@ unfolding upTo batchOf allOf give
 up-to-none k e r b a =
     let m = min-le-left 0 (r .rows - r .place) in
     let z : min 0 (r .rows - r .place) ≡ 0 = omega arith in
-    rw (z, no-steps e r b) (simp (none-fits k a) (ap (none-given-by k a) (stays r)))
+    rw (z, no-steps e r b) (simp (none-fits k a) (ap (none-given-by k a) (stays-counted r)))
   where
     none-given-by : Kind → Areas → Reader → Batch
     none-given-by k a x = none-given k x a

@@ -8,4 +8,5 @@ pub mod InTwo
 pub mod Refusing
 pub mod Consequences
 pub mod TextRows
+pub mod Nulls
 pub mod Ours

@@ -12,19 +12,21 @@ use borrow.Author.Tests.{lt-ltb, le-ltb, eq-eqb}
 use Rattle.limits.specs.Refusals.{ROOM, NO_ROWS, TOO_FAR}
 use Rattle.encode.specs.declared.Kind.{Kind}
 use Rattle.area.proofs.Laws.{lt-or-ge}
+use Rattle.zeros.proofs.Counting.{zeros-few}
 use Rattle.plain.specs.Rows.{Row}
+use Rattle.nullable.specs.Nullable.{presence}
 use Rattle.rle.specs.Stepping.{rows}
 use Rattle.format.specs.declared.Encoding.{Encoding}
 use Rattle.format.specs.declared.Column.the-variants.{Of}
 use Rattle.format.specs.Opening.{headOf, rowAt}
 use Rattle.anatomy.specs.Tests.{rowGood}
 use Rattle.block.specs.declared.Reader.{Reader}
-use Rattle.block.specs.Reading.{nextSteps, moved}
+use Rattle.block.specs.Reading.{nextSteps, moved, counted, nullsIn}
 use Rattle.block.specs.Reading.{Areas, Batch, short, filledIn, givenBytes, refusedBatch, give, batchOf, upTo, whole, passThen, readIn, asksNothing, read}
 use Rattle.block.specs.Calls.{Call, reading, Answer, gave, refused, handed, readAnswer, answerTo, after}
 use Rattle.reading_laws.specs.Calls.{due, moves}
 use Rattle.reading_laws.proofs.HandedRows.{read-back, rows-handed}
-use Rattle.reading_laws.proofs.RowsLeft.{Stands, Later, later, not-wrong, take-good}
+use Rattle.reading_laws.proofs.RowsLeft.{Stands, Later, later, counted-stands, not-wrong, take-good}
 
 -- ---- lists
 module _ {A B : Type 0} (f : A → B) where
@@ -43,6 +45,11 @@ take-least n l = ⊎-elim
     (λ (h : n < length l). let m : n ≤ length l = omega arith in rw (min-eq-left m))
     (λ (h : length l ≤ n). rw (min-eq-right h) (take-all (length l) l (omega arith) ∙ sym (take-all n l h)))
     (lt-or-ge n (length l))
+
+-- ---- no more rows are null than there are
+pub nulls-few : (rs : List Row) → nullsIn rs ≤ length rs
+unfolding nullsIn
+nulls-few rs = let z = zeros-few (map presence rs) in let l = length-map rs presence in omega arith
 
 -- ---- the rows at some places of a block
 abbrev pub rowsAt : Kind → Encoding → ℕ → List ℕ → List ℕ → List Row
@@ -153,7 +160,7 @@ module _ {k : Kind} {e : Encoding} {n : ℕ} {b : List ℕ} {r : Reader} {is : L
       number = 0;
       rows = length handed-out;
       bytes = givenBytes k handed-out;
-      reader = moved (moved r skip (later g skip h .mid)) (length handed-out) (step behind size a .mid);
+      reader = counted (moved (moved r skip (later g skip h .mid)) (length handed-out) (step behind size a .mid)) (nullsIn handed-out);
     };
     areas = filledIn k handed-out a;
   }
@@ -177,8 +184,11 @@ module _ {k : Kind} {e : Encoding} {n : ℕ} {b : List ℕ} {r : Reader} {is : L
       (λ x y. let z : _≡_ {A = ℕ} 0 1 = cc in omega arith)
       (subst (λ (js : List ℕ). Stands k e n b (done .answer .reader) js) (drop-drop (length handed-out) skip is) stands-there)
     where
+      rows-stand : Stands k e n b (moved (moved r skip (later g skip h .mid)) (length handed-out) (step behind size a .mid)) (drop (length handed-out) (drop skip is))
+      rows-stand = rw (given-long behind size a) (step behind size a .stands)
+
       stands-there : Stands k e n b (done .answer .reader) (drop (length handed-out) (drop skip is))
-      stands-there = rw (given-long behind size a) (step behind size a .stands)
+      stands-there = counted-stands rows-stand (nullsIn handed-out) (omega (arith, g .right .nulls, nulls-few handed-out))
 
   told-behind : Told k e n b r is (reading skip size a)
   told-behind = go (short k handed-out a) refl

@@ -35,7 +35,7 @@ use Rattle.format.proofs.Sound.{plain-sound, nullable-sound, run-length-sound, 
 use Rattle.block.specs.declared.Reader.{Reader}
 use Rattle.encode.proofs.Bools.{both}
 use Rattle.anatomy.specs.Tests.{noRuns, runsOutside, partOutside, runsWrong, headWrong, rowGood}
-use Rattle.block.specs.Reading.{readerAt, wrong, nextSteps, moved}
+use Rattle.block.specs.Reading.{readerAt, wrong, nextSteps, moved, counted}
 use Rattle.block.specs.Calls.{columnIn}
 use Rattle.block.proofs.RecordTests.{RightRecord}
 use Rattle.block.proofs.MovedReader.{runs-kept, moved-right}
@@ -88,7 +88,14 @@ pub not-wrong : (k : Kind) (e : Encoding) (r : Reader) → RightRecord k e r →
 unfolding wrong
 not-wrong k e r w =
     let v = w .numbers in
-    simp (le-ltb MOST_BYTES (r .len) (v .size), le-ltb (mostRows e) (r .rows) (v .rows), le-ltb (r .rows) (r .place) (w .place), v .head, v .parts)
+    simp (
+      le-ltb MOST_BYTES (r .len) (v .size),
+      le-ltb (mostRows e) (r .rows) (v .rows),
+      le-ltb (r .rows) (r .place) (w .place),
+      le-ltb (r .place) (r .nulls) (w .nulls),
+      v .head,
+      v .parts,
+    )
 
 -- ---- some of the rows left, and the reader after them
 record Next (e : Encoding) (r : Reader) (b : List ℕ) (m : ℕ) (is : List ℕ) : Type 0 where
@@ -168,6 +175,30 @@ later {k} {e} {n} {b} {r} {is} g m h =
         count = length-drop m is ∙ omega (arith, g .count, w .place);
         good = drop-good (rowGood k e (r .rows) (r .head) b) m is (g .good);
       };
+    }
+
+-- ---- a reader whose nulls are counted stands where it stood
+same-steps : (e : Encoding) (r : Reader) (b : List ℕ) (m z : ℕ) → nextSteps e (counted r z) b m ≡ nextSteps e r b m
+unfolding nextSteps
+same-steps Plain r b m z = refl
+same-steps Nullable r b m z = refl
+same-steps RunLength r b m z = refl
+same-steps RunLengthNullable r b m z = refl
+same-steps Dictionary r b m z = refl
+
+pub counted-stands : {k : Kind} {e : Encoding} {n : ℕ} {b : List ℕ} {r : Reader} {is : List ℕ} → Stands k e n b r is → (z : ℕ) → r .nulls + z ≤ r .place
+    → Stands k e n b (counted r z) is
+counted-stands {k} {e} {n} {b} {r} {is} g z h =
+    record {
+      column = g .column;
+      size = g .size;
+      head = g .head;
+      long = g .long;
+      right = record { place = g .right .place; nulls = h; numbers = g .right .numbers };
+      end = g .end;
+      left = same-steps e r b (length is) z ∙ g .left;
+      count = g .count;
+      good = g .good;
     }
 
 -- ---- the reader that opening gave
@@ -339,7 +370,7 @@ module _ (k : Kind) (n : ℕ) (b : List ℕ) (kind encoding width : ℕ) where
         size = refl;
         head = refl;
         long = refl;
-        right = record { place = omega arith; numbers = record { size = w .size; rows = w .most; head = x .head; parts = x .parts } };
+        right = record { place = omega arith; nulls = omega arith; numbers = record { size = w .size; rows = w .most; head = x .head; parts = x .parts } };
         end = x .end;
         left = rw (x .all) (x .left);
         count = x .all ∙ omega arith;

@@ -3,6 +3,7 @@ use mathlib.Core.Path.{refl}
 use Rattle.reading_laws.specs.Samples.{samples, GivesEach}
 use Rattle.varint.specs.Varint as Varint
 use Rattle.utf8.specs.Utf8 as Utf8
+use Rattle.zeros.specs.Zeros as Zeros
 use Rattle.plain.specs.Rows as Rows
 use Rattle.plain.specs.Rules as Rules
 use Rattle.plain.specs.Plain as Plain
@@ -37,6 +38,7 @@ unfolding Varint.more Varint.countWithin Varint.in32Bits Varint.countOf Varint.c
     Sizes.shouldFinish Sizes.storedItems Sizes.storedEntries Sizes.withinLimits Sizes.allFit Sizes.accepted Reading.headIn Reading.openedBy
     Reading.opened Tests.noRuns Tests.runsOutside Tests.partOutside Tests.runsWrong Tests.headWrong Reading.wrong Reading.nextSteps Reading.remainingIn
     Reading.remaining Tests.rowGood Reading.isBytes Reading.short Reading.filledIn Reading.givenBytes
+    Reading.nullsIn Zeros.zeroIn Zeros.zerosIn
     Reading.give Reading.batchOf Reading.upTo Reading.whole Reading.passThen Reading.readIn Reading.read Calls.startIn Calls.handedRow Calls.handed Calls.readAnswer
     Calls.answerTo Calls.after Calls.play Calls.playOpened Kinds.numbered Kinds.kindOf Area.over
 samples-given = (

@@ -85,7 +85,7 @@ module _ (P : Row → Type 0) where
       each-append P gs (handedOut as′) (subst (Each P) (sym (f .0)) (each-take (length gs) (drop skip rs) (each-drop skip rs h))) g
   handed-more k rs (refused x) as′ f h g = g
 
-  each-handed : (k : Kind) (rs : List Row) (cs : List Call) → Each P rs → Each P (handedOut (expected k rs cs))
+  pub each-handed : (k : Kind) (rs : List Row) (cs : List Call) → Each P rs → Each P (handedOut (expected k rs cs))
   unfolding expected handedOut
   each-handed k rs [] h = tt
   each-handed k rs (c ∷ cs) h =

@@ -10,7 +10,7 @@ use Rattle.encode.specs.declared.Kind.{Kind}
 use Rattle.utf8.specs.Utf8.{isText}
 use Rattle.plain.specs.Rows.{Row, null, int, bytes}
 use Rattle.block.specs.declared.Reader.{Reader}
-use Rattle.block.specs.Reading.{short, asksNothing}
+use Rattle.block.specs.Reading.{short, asksNothing, read}
 use Rattle.block.specs.Calls.{Call, reading, Answer, gave, refused, after}
 
 -- The answer to one call, where these rows of a kind are left. A read that asks for nothing is refused as 6, one that is to pass over more rows than
@@ -54,6 +54,12 @@ unskipped all (refused e ∷ as′) = unskipped all as′
 unfoldable pub afterAll : Reader → List ℕ → List Call → Reader
 afterAll r b [] = r
 afterAll r b (c ∷ cs) = afterAll (after r b c) b cs
+
+-- the flags of all rows given, as the areas held them after each read
+unfoldable pub flagsGot : Reader → List ℕ → List Call → List ℕ
+flagsGot r b [] = []
+flagsGot r b (reading skip size a ∷ cs) =
+    take (read r b skip size a .answer .rows) (read r b skip size a .areas .flags) ++ flagsGot (after r b (reading skip size a)) b cs
 
 -- ---- what char and string hand out
 abbrev pub NullOrText : Row → Type 0

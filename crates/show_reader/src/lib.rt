@@ -20,6 +20,7 @@ pub fn show_reader(r: Reader) {
     show_size(r.spot.run);
     show_size(r.spot.at);
     show_size(r.spot.taken);
+    show_size(r.nulls);
 }
 
 fn show_end(n: u32) {
@@ -86,7 +87,8 @@ fn give(
     answer.reader
 }
 
-// Lends areas of these lengths, filled with aa. Where one is too long nothing is read.
+// Lends areas of these lengths, filled with aa; the last of all flags is 0, which behind the rows given is no null. Where an area is too
+// long nothing is read.
 pub fn give_into(
     r: Reader,
     block: &[u8],
@@ -97,10 +99,10 @@ pub fn give_into(
     ends: usize,
     bytes: usize,
 ) -> Reader {
-    if 64 < values {
+    if 400 < values {
         return r;
     }
-    if 64 < flags {
+    if 400 < flags {
         return r;
     }
     if 64 < ends {
@@ -109,8 +111,9 @@ pub fn give_into(
     if 255 < bytes {
         return r;
     }
-    let mut v = [0xaai64; 64];
-    let mut f = [0xaau8; 64];
+    let mut v = [0xaai64; 400];
+    let mut f = [0xaau8; 400];
+    f[399] = 0;
     let mut e = [0xaau32; 64];
     let mut b = [0xaau8; 255];
     give(

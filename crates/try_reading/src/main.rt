@@ -134,7 +134,8 @@ fn with(r: Reader, field: usize, value: usize) -> Reader {
         9 => next.place = value,
         10 => next.spot.run = value,
         11 => next.spot.at = value,
-        _ => next.spot.taken = value,
+        12 => next.spot.taken = value,
+        _ => next.nulls = value,
     }
     next
 }

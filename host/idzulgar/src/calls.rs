@@ -11,8 +11,8 @@
 //! the library follows no pointer of length 0, null or not. It keeps no pointer, allocates nothing and has no state of its own. The
 //! records below have the layout of include/idzulgar.h, all of plain numbers, so any bits in them are a value.
 
-/// A reader's record: what opening was given and found at the block's head, and where reading stands. Any numbers can stand
-/// here; a record that contradicts itself is refused as 9.
+/// A reader's record: what opening was given and found at the block's head, where reading stands, and how many nulls were given. Any
+/// numbers can stand here; a record that contradicts itself is refused as 9.
 #[repr(C)]
 #[derive(Clone, Copy, Debug, PartialEq, Eq, Hash)]
 #[allow(missing_docs)]
@@ -30,6 +30,7 @@ pub struct ReaderRecord {
     pub run: usize,
     pub at: usize,
     pub taken: usize,
+    pub nulls: usize,
 }
 
 /// What opening answers. Beside a refusal stands a record that every call refuses as 9, but for a read that passes over no rows and gives

@@ -2,7 +2,8 @@
 //!
 //! The work is done by a static library whose every answer is proved: a row, or a refusal with its number. This crate adds what a
 //! Rust service expects around it: a [`Builder`] that keeps its memory, a [`Reader`] that keeps its block, a [`Refusal`] that says
-//! what a number means, rows by batch or by iterator. No function here panics, whatever the block holds, and memory grows only as the caller asks.
+//! what a number means, rows by batch or by iterator, a [count of the nulls](Reader::nulls) among them. No function here
+//! panics, whatever the block holds, and memory grows only as the caller asks.
 //!
 //! ```
 //! use idzulgar::{Column, Encoding, Kind, Reader, Refusal, Value};

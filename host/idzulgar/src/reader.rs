@@ -52,6 +52,42 @@ impl<B: AsRef<[u8]>> Reader<B> {
         Ok(answer.rows as u64)
     }
 
+    /// How many of the rows given since opening were null. Rows passed over aren't counted, and a refused read counts none. In
+    /// [`Encoding::Plain`](crate::Encoding::Plain) and [`Encoding::RunLength`](crate::Encoding::RunLength), which have no nulls, it stays 0.
+    ///
+    /// It is the record's number as it stands. A record put together by hand can have any there: the calls refuse one that is above the rows
+    /// given and passed over as [`Refusal::Disagree`], and add to any other.
+    ///
+    /// The iterator of [`Reader::rows`] and of [`Reader::rows_after`] reads ahead: the count of the reader inside it is of all rows that were
+    /// read, those that the iterator hasn't handed out yet among them. Read by batches where the count is wanted.
+    ///
+    /// ```
+    /// use idzulgar::{Batch, Column, Encoding, Kind, Reader, Refusal};
+    ///
+    /// // i16, nullable: 5 null null -2 null
+    /// let block = [5, 0, 0, 0, 0, 0, 0xFE, 0xFF, 0, 0, 9, 1, 0, 0, 0];
+    /// let column = Reader::open(Column::new(Kind::I16, Encoding::Nullable), 5, &block[..])?;
+    ///
+    /// // pricing flags a column as thin where more than half of the rows that it got were null
+    /// let is_thin = |skip| {
+    ///     let mut reader = column.clone();
+    ///     let mut batch = Batch::new(Kind::I16, 2, 0).expect("memory for two rows");
+    ///     let (mut rows, mut given) = (0, reader.read(skip, 2, &mut batch)?);
+    ///     while given > 0 {
+    ///         rows += given as u64;
+    ///         given = reader.read(0, 2, &mut batch)?;
+    ///     }
+    ///     Ok((reader.nulls(), rows, 2 * reader.nulls() > rows))
+    /// };
+    /// assert_eq!(is_thin(0)?, (3, 5, true));
+    /// assert_eq!(is_thin(3)?, (1, 2, false)); // the nulls that were passed over aren't counted
+    /// assert_eq!(is_thin(6), Err(Refusal::TooFar));
+    /// # Ok::<(), Refusal>(())
+    /// ```
+    pub fn nulls(&self) -> u64 {
+        self.record.nulls as u64
+    }
+
     /// Passes over `skip` rows, then reads the next `size` rows, or as many as are left, and answers how many that are: 0 at the end.
     ///
     /// It does both or neither: a refused read leaves the reader before the rows that it was to pass over, and the batch with the rows

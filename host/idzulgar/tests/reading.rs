@@ -187,6 +187,7 @@ fn forged(chance: &mut Chance) -> (ReaderRecord, Vec<u8>) {
         run: number(),
         at: number(),
         taken: number(),
+        nulls: number(),
     };
     if reader.kind != 8 {
         reader.width = 0;
@@ -195,6 +196,9 @@ fn forged(chance: &mut Chance) -> (ReaderRecord, Vec<u8>) {
     if chance.one_in(2) {
         reader.len = block.len();
         reader.place = 0;
+    }
+    if !chance.one_in(4) {
+        reader.nulls = chance.below((reader.place as u64).saturating_add(1)) as usize;
     }
     (reader, block)
 }
@@ -215,6 +219,9 @@ fn altered(chance: &mut Chance) -> (ReaderRecord, Vec<u8>) {
             None => r.place = number,
         }
     }
+    if chance.one_in(2) {
+        r.nulls = chance.below((r.place as u64).saturating_add(2)) as usize;
+    }
     (r, block)
 }
 
@@ -222,19 +229,23 @@ fn altered(chance: &mut Chance) -> (ReaderRecord, Vec<u8>) {
 fn forged_records_get_an_answer() {
     let mut chance = Chance::new(5);
     let mut seen = [0u32; 10];
+    let mut counted = [0u32; 2];
     for round in 0..200_000 {
         let (reader, block) = if round % 2 == 0 { forged(&mut chance) } else { altered(&mut chance) };
         let mut lent = Areas::new(chance.below(9) as usize, 64);
         let skip = if chance.one_in(8) { usize::MAX } else { chance.below(5) as usize };
         let given = read(reader, &block, skip, chance.below(9) as usize, &mut lent);
-        let left = calls::remaining(reader);
-        assert!([0, 4, 6, 7, 9].contains(&given.number) && [0, 9].contains(&left.number));
-        assert_eq!(left.reader, reader);
+        assert!([0, 4, 6, 7, 9].contains(&given.number));
+        assert_eq!(calls::remaining(reader), reads::remaining(reader), "{reader:?}");
         seen[given.number as usize] += 1;
+        if given.number == 0 {
+            counted[(given.reader.nulls > reader.nulls) as usize] += 1;
+        }
     }
     for number in [0, 4, 6, 7, 9] {
         assert!(seen[number] > 1_000, "{number} was seen {} times", seen[number]);
     }
+    assert!(counted[0] > 1_000 && counted[1] > 1_000, "{counted:?}");
 }
 
 #[test]

@@ -3,33 +3,9 @@ mod model;
 
 use idzulgar::calls::{self, Given, ReaderRecord};
 use idzulgar::{Batch, Column, Encoding, Kind, Reader, Refusal, Row, Value};
+use model::held::{open, read, read_into, refused};
 use model::reads::{self, Areas};
 use model::Chance;
-
-fn open(column: Column, rows: usize, block: &[u8]) -> ReaderRecord {
-    let (kind, encoding, width) = column.numbers();
-    let answer = calls::open(kind, encoding, width, rows, block);
-    assert_eq!(answer.number, 0, "{column:?} {block:02X?}");
-    answer.reader
-}
-
-/// A read into areas that it may change, held to the model.
-fn read_into(reader: ReaderRecord, block: &[u8], skip: usize, size: usize, lent: &mut Areas) -> Given {
-    let (due, left) = reads::read(reader, block, skip, size, lent);
-    let given = calls::read(reader, block, skip, size, &mut lent.values, &mut lent.flags, &mut lent.ends, &mut lent.bytes);
-    assert_eq!((given, &*lent), (due, &left), "{skip}, {size} of {block:02X?} by {reader:?}");
-    given
-}
-
-/// A read with room for ten rows.
-fn read(reader: ReaderRecord, block: &[u8], skip: usize, size: usize) -> Given {
-    read_into(reader, block, skip, size, &mut Areas::new(10, 1000))
-}
-
-/// A refusal: no rows, no bytes, and the reader that was given.
-fn refused(number: u8, reader: ReaderRecord) -> Given {
-    Given { number, rows: 0, bytes: 0, reader }
-}
 
 fn text(text: &str) -> Value {
     Value::Bytes(text.into())
@@ -97,7 +73,8 @@ fn nothing_asked_for_is_6_before_all_else() {
         let end = read(reader, &block, 6, 0).reader;
         let none = ReaderRecord { kind: 255, ..reader };
         let contradictory = ReaderRecord { place: 7, ..reader };
-        for reader in [reader, end, none, contradictory] {
+        let too_many_nulls = ReaderRecord { nulls: 1, ..reader };
+        for reader in [reader, end, none, contradictory, too_many_nulls] {
             for block in [&block[..], &block[1..], &[], &[&block[..], &[0]].concat()] {
                 for mut lent in [Areas::new(10, 1000), Areas::new(0, 0)] {
                     assert_eq!(read_into(reader, block, 0, 0, &mut lent), refused(6, reader), "{column:?}");
@@ -106,7 +83,7 @@ fn nothing_asked_for_is_6_before_all_else() {
         }
         // asked for something, a record that contradicts itself and another length are 9, also where 7 or 4 would come next
         for (skip, size) in [(1, 0), (0, 1), (1, 1), (usize::MAX, 0), (usize::MAX, usize::MAX)] {
-            for reader in [none, contradictory] {
+            for reader in [none, contradictory, too_many_nulls] {
                 assert_eq!(read_into(reader, &block, skip, size, &mut Areas::new(0, 0)), refused(9, reader), "{column:?}");
             }
             let mut lent = Areas::new(0, 0);

@@ -3,6 +3,7 @@
 //! code with the library.
 #![allow(dead_code)]
 
+pub mod held;
 pub mod reads;
 
 use idzulgar::{Column, Encoding, Kind, Value};

@@ -1,5 +1,5 @@
-//! A read on any record and any bytes: what it answers, and what it leaves in the areas that it is lent.
-use idzulgar::calls::{Given, ReaderRecord};
+//! Read and remaining on any record and any bytes: what they answer, and what a read leaves in the areas that it is lent.
+use idzulgar::calls::{Given, Left, ReaderRecord};
 use idzulgar::{Column, Encoding, Kind, Value};
 
 use super::{by_ends, count, nullable_row, plain_row, u32_at, width};
@@ -58,7 +58,7 @@ fn least_bytes(kind: Kind, items: usize) -> u128 {
 fn is_wrong(column: Column, r: &ReaderRecord) -> bool {
     let (kind, by_runs) = (column.kind, !matches!(column.encoding, Encoding::Plain | Encoding::Nullable));
     let most = if by_runs { 281474976710655 } else { 1048576 };
-    if r.len > 16777216 || r.rows > most || r.place > r.rows {
+    if r.len > 16777216 || r.rows > most || r.place > r.rows || r.nulls > r.place {
         return true;
     }
     if by_runs && (r.runs > 1048576 || r.run > r.runs) {
@@ -166,9 +166,22 @@ fn next_row(column: Column, r: &mut ReaderRecord, b: &[u8], look: bool) -> Optio
     }
 }
 
+/// How many rows are null.
+pub fn nulls(rows: &[Value]) -> usize {
+    rows.iter().filter(|row| matches!(row, Value::Null)).count()
+}
+
 /// The bytes of some rows.
 pub fn weight(rows: &[Value]) -> usize {
     rows.iter().map(|row| if let Value::Bytes(bytes) = row { bytes.len() } else { 0 }).sum()
+}
+
+/// What asking for the remaining rows answers.
+pub fn remaining(reader: ReaderRecord) -> Left {
+    match Column::numbered(reader.kind as u64, reader.encoding as u64, reader.width as u64) {
+        Ok(column) if !is_wrong(column, &reader) => Left { number: 0, rows: reader.rows - reader.place, reader },
+        _ => Left { number: 9, rows: 0, reader },
+    }
 }
 
 /// What a read answers, and the areas as it leaves them. It goes one row at a time, so few can be passed over at once.
@@ -199,5 +212,6 @@ pub fn read(reader: ReaderRecord, b: &[u8], skip: usize, size: usize, areas: &Ar
     if areas.are_short(column.kind, &rows) {
         return refused(4);
     }
+    moved.nulls += nulls(&rows);
     (Given { number: 0, rows: rows.len(), bytes: weight(&rows), reader: moved }, areas.written(column.kind, &rows))
 }

@@ -13,4 +13,4 @@ unfolding spotBy movedBy
 returns-2 c = rw (c .if1 .left)
 
 pub moved-spec : {M : Type 1} → statement M
-moved-spec = tie.close (tie.spec (λ c. search needs) returns returns-2)
+moved-spec = tie.close (tie.spec (λ c. search needs) (λ c. search needs) returns returns-2)

@@ -99,11 +99,33 @@ fits c =
 abbrev written-at : (c : tie.Else1) → tie.After-write-rows
 written-at c = let x = c .before .before in x .before .before .before .before .before .before .before
 
+nulls-given-requires : tie.Need-nulls-given-requires
+nulls-given-requires c κs =
+    let e = c .before in
+    let w = written-at e in
+    let l = counted-at w in
+    let u = l .before .before .before in
+    let g = u .before .before in
+    let f = g .before in
+    let t = f .before .before in
+    laws.flags-there (passed (tests-at u)) (t .take-apart .ensures) (f .start .ensures) (g .pass .ensures) (u .there .given .1) (l .least .ensures)
+    (w .write-rows .ensures) (e .if1 .left)
+
 add-moved : tie.Need-add-moved
-add-moved c = record { fits = fits (written-at c) .0 }
+add-moved c = record { fits = fits (written-at (c .before .before)) .0 }
 
 moved-requires : tie.Need-moved-requires
-moved-requires c κs = fits (written-at c) .1
+moved-requires c κs =
+    let w = written-at (c .before .before) in
+    let l = counted-at w in
+    let u = l .before .before .before in
+    let g = u .before .before in
+    let f = g .before in
+    let t = f .before .before in (
+      fits w .1,
+      laws.nulls-fit (passed (tests-at u)) (t .take-apart .ensures) (f .start .ensures) (g .pass .ensures) (u .there .given .1) (l .least .ensures)
+          (w .write-rows .ensures) (c .nulls-given .ensures .1),
+    )
 
 returns-3 : tie.Need-returns-3
 returns-3 c =
@@ -116,15 +138,16 @@ returns-3 c =
 
 returns-4 : tie.Need-returns-4
 returns-4 c =
-    let x = c .before .before .before in
-    let w = x .before .before .before .before .before .before .before in
+    let n = c .before in
+    let e = n .before .before in
+    let w = written-at e in
     let l = counted-at w in
     let u = l .before .before .before in
     let g = u .before .before in
     let f = g .before in
     let t = f .before .before in
     laws.fill-done (passed (tests-at u)) (t .take-apart .ensures) (f .start .ensures) (g .pass .ensures) (u .there .given .1) (l .least .ensures)
-    (w .write-rows .ensures) (c .before .if1 .left) (c .moved .ensures)
+    (w .write-rows .ensures) (e .if1 .left) (n .nulls-given .ensures .0) (c .moved .ensures)
 
 pub read-spec : {M : Type 1} → statement M
 read-spec =
@@ -151,6 +174,7 @@ read-spec =
     (λ c. search needs)
     (λ c. search needs)
     returns-2
+    nulls-given-requires
     add-moved
     moved-requires
     returns-3

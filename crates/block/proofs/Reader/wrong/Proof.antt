@@ -16,35 +16,44 @@ returns-3 c = laws.wrong-place _ _ _ (omega arith) (c .before .before .before .b
 
 returns-4 : tie.Need-returns-4
 returns-4 c =
+    laws.wrong-nulls _ _ _ (omega arith) (c .before .before .before .before .before .before .most-rows .ensures) (omega arith) (omega arith) (omega arith)
+
+returns-5 : tie.Need-returns-5
+returns-5 c =
+    let h = c .before in
     laws.wrong-head
     _
     _
     _
     (omega arith)
-    (c .before .before .before .before .before .before .most-rows .ensures)
+    (h .before .before .before .before .before .before .before .most-rows .ensures)
     (omega arith)
     (omega arith)
-    (c .before .head-wrong .ensures)
-    (c .if4 .taken)
+    (omega arith)
+    (h .head-wrong .ensures)
+    (c .if5 .taken)
 
 part-outside-requires : tie.Need-part-outside-requires
 part-outside-requires c κs =
-    let m = c .before .before .before .before .before .before in
+    let h = c .before in
+    let m = h .before .before .before .before .before .before .before in
     let a = m .before .before .before .args in
-    laws.parts-ask (a .kind) (a .encoding) (a .self) (omega arith) (m .most-rows .ensures) (omega arith) (c .before .head-wrong .ensures) (c .if4 .left)
+    laws.parts-ask (a .kind) (a .encoding) (a .self) (omega arith) (m .most-rows .ensures) (omega arith) (h .head-wrong .ensures) (c .if5 .left)
 
-returns-5 : tie.Need-returns-5
-returns-5 c =
+returns-6 : tie.Need-returns-6
+returns-6 c =
+    let h = c .before .before in
     laws.wrong-parts
     _
     _
     _
     (omega arith)
-    (c .before .before .before .before .before .before .before .most-rows .ensures)
+    (h .before .before .before .before .before .before .before .most-rows .ensures)
     (omega arith)
     (omega arith)
-    (c .before .before .head-wrong .ensures)
-    (c .before .if4 .left)
+    (omega arith)
+    (h .head-wrong .ensures)
+    (c .before .if5 .left)
     (c .part-outside .ensures)
 
 pub wrong-spec : {M : Type 1} → statement M
@@ -55,7 +64,8 @@ wrong-spec =
     (λ c κs. search needs)
     returns-2
     returns-3
-    (λ c κs. search needs)
     returns-4
+    (λ c κs. search needs)
+    returns-5
     part-outside-requires
-    returns-5)
+    returns-6)
