@@ -87,7 +87,7 @@ fn shown(flag: u8, value: i64) -> i64
 }
 
 // A null's value is 0, whatever the block holds under it. Every value is stored anew, so that no branch hangs on a flag: where nulls come
-// as they please, a branch on them is guessed wrong at every other null.
+// as they please, a branch on them can't be foretold.
 pub fn blank(flags: &[u8], n: usize, values: &mut [i64])
     requires { ⌜ (n ≤ length (now flags)) × (n ≤ length (now values)) ⌝ }
     ensures { λ _. ⌜ now (values .exit) ≡ sets (now (values .entry)) 0 (map (blankAt (now (flags .entry)) (now (values .entry))) (places n 0)) ⌝ }
