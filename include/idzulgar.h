@@ -3,8 +3,8 @@
  *
  * Every call takes any numbers, records and bytes, and answers with a number below; 0 is done. A refusal hands back the record that
  * it was given, counts of 0, and writes nothing; idz_remaining, idz_finish, idz_estimate and idz_should_finish hand it back when done,
- * too. Opening and creation are given no record: beside their refusal stands one of kind 255, which every call refuses as 9, but for
- * a read that passes over no rows and gives none, which is 6.
+ * too. Opening, of a block or of a sheet's column, and creation are given no record: beside their refusal stands one of kind 255, which
+ * every call refuses as 9, but for a read that passes over no rows and gives none, which is 6.
  *
  * What no call can test, and the caller sees to: a pointer that goes with a length points to that many items and is aligned for them
  * (with length 0 it may be NULL or point anywhere); memory that a call writes overlaps nothing else that the call is lent.
@@ -34,7 +34,7 @@ enum {
     IDZ_ITEM = 2,        /* an appended item doesn't fit its kind: an integer outside it, a char item longer than the width, or a char
                             or string item that isn't text */
     IDZ_LIMIT = 3,       /* a limit is passed: rows 281,474,976,710,655; stored items or runs 1,048,576; entries 65,536;
-                            block 16,777,216 bytes */
+                            block or sheet file 16,777,216 bytes */
     IDZ_ROOM = 4,        /* lent room is too short for the whole answer */
     IDZ_NO_ROWS = 6,     /* nothing asked for: a read that passes over no rows and gives none */
     IDZ_TOO_FAR = 7,     /* more rows to pass over than remain */
@@ -47,7 +47,11 @@ enum {
     IDZ_ENDS = 14,       /* the end of a blob or string falls or passes the data */
     IDZ_KEY = 15,        /* a dictionary key names no entry */
     IDZ_SUM = 16,        /* the run counts don't add up to the rows */
-    IDZ_TEXT = 17        /* a stored char or string item isn't text (opening) */
+    IDZ_TEXT = 17,       /* a stored char or string item isn't text (opening) */
+    IDZ_NO_COLUMN = 20,  /* the sheet file has no such column */
+    IDZ_SHEET = 21,      /* the sheet file is empty, has over 64 columns, or is cut in its directory; to be written, it would have over
+                            64, or the list of their numbers is cut */
+    IDZ_OUTSIDE = 22     /* a sheet file's block begins before the directory's end or ends behind the file's */
 };
 
 /* Kinds. Width is 1 to 255 for char and 0 for every other kind. The items of char and string are text, which is well-formed UTF-8 (the
@@ -132,6 +136,18 @@ typedef struct {
     idz_builder builder; /* as it was given */
 } idz_asked;
 
+/* What opening a sheet file's column answers. */
+typedef struct {
+    uint8_t number;
+    size_t from, len; /* where the block lies: `len` bytes from `file + from` on; both are 0 beside a refusal, opening's own too */
+    idz_reader reader;
+} idz_found;
+
+typedef struct {
+    uint8_t number;
+    size_t len; /* bytes written */
+} idz_written;
+
 /* Opens a block of `rows` rows: 0 exactly for a sound block, else 1, 3 or 10 to 17. The block isn't kept: lend it to each call. */
 idz_opening idz_open(size_t kind, size_t encoding, size_t width, size_t rows, const uint8_t *block, size_t block_len);
 
@@ -175,6 +191,33 @@ idz_estimated idz_estimate(idz_builder builder);
 
 /* Whether to finish before a next row, from the record alone: whether that row is present, and the length of its bytes. Refuses 9. */
 idz_asked idz_should_finish(idz_builder builder, uint8_t present, size_t len);
+
+/* A sheet file is up to 64 blocks in one file of at most 16,777,216 bytes: a byte, the number of columns; 16 bytes a column, which is
+ * the directory; then the blocks. A column's 16 bytes are, bit by bit and the most significant first, its kind (4 bits), encoding (3),
+ * width (8), a zero bit, its rows (48), its block's offset from the file's start (32) and its block's length (32). */
+
+/* Opens a column of a sheet file, counted from 0. Its own 16 bytes and its own block are looked at, and nothing of the other columns,
+ * which may hold anything. The reader is the one that idz_open gives for the block, and goes on as any other: idz_read is lent the block,
+ * which is a part of the file, and not the file.
+ *
+ *     idz_found found = idz_sheet_open(file, file_len, 3);
+ *     if (found.number != IDZ_DONE) return found.number;
+ *     idz_given given = idz_read(found.reader, file + found.from, found.len, 0, 4, values, 4, flags, 4, ends, 0, bytes, 0);
+ *
+ * Refuses in this order: 3 for a file above the size; 21 for no byte at all, over 64 columns, or a directory that is cut; 20 if there is
+ * no such column; 22 for a block that begins before the directory's end or ends behind the file's, also for one of no bytes; then as
+ * idz_open does, a zero bit that is set being its 1. */
+idz_found idz_sheet_open(const uint8_t *file, size_t file_len, size_t column);
+
+/* Writes a sheet file of sound blocks to `out`, whole or not at all, and answers its length. `columns` has five numbers a column: kind,
+ * encoding, width, rows and the length of its block; `blocks` has the blocks one after another, as the file gets them behind its directory.
+ * Bytes behind the last block aren't looked at; those of `out` behind the file stay.
+ *
+ * Refuses in this order: 21 for over 64 columns, or a list that isn't five numbers a column; of the first bad block 10 if `blocks` ends
+ * before it does, else what idz_open refuses it as; 3 if the file would be above 16,777,216 bytes; 4 if `out` is shorter than the
+ * file. */
+idz_written idz_sheet_write(const size_t *columns, size_t columns_len, const uint8_t *blocks, size_t blocks_len, uint8_t *out,
+                            size_t out_len);
 
 #ifdef __cplusplus
 }

@@ -50,6 +50,19 @@ def parts_of(block):
     return parts + [(1, bytes(plain))] if plain else parts
 
 
+def lay(bytes_or_parts, commands, room):
+    """Command 0: puts bytes, or parts with how often each comes, together at the start of the room, and answers their length."""
+    parts = parts_of(bytes_or_parts) if isinstance(bytes_or_parts, (bytes, bytearray)) else bytes_or_parts
+    commands += bytes([0]) + number(len(parts))
+    at, most = 0, len(room)
+    for times, text in parts:
+        commands += number(times) + number(len(text)) + text
+        room[at:at + times * len(text)] = times * text
+        at += times * len(text)
+    assert at <= most and len(room) == most
+    return at
+
+
 class Script:
     """Commands, and what the program has to write for each. It keeps what the program keeps: a room for the block, the
     length at which it is lent, and the reader."""
@@ -82,17 +95,9 @@ class Script:
     # ---- the commands
 
     def load(self, block):
-        parts = parts_of(block) if isinstance(block, (bytes, bytearray)) else block
-        self.command(0, len(parts))
-        at = 0
-        for times, text in parts:
-            self.commands += number(times) + number(len(text)) + text
-            self.room[at:at + times * len(text)] = times * text
-            at += times * len(text)
-        assert at <= ROOM and len(self.room) == ROOM
-        self.len = at
+        self.len = lay(block, self.commands, self.room)
         self.blocks += 1
-        self.answer("block", at)
+        self.answer("block", self.len)
 
     def open(self, kind, encoding, width, rows, expect=None):
         self.command(1, kind, encoding, width, rows)

@@ -181,6 +181,40 @@ static void some(int kind, int encoding, size_t width) {
     }
 }
 
+/* A sheet file of two columns of no bytes, and of one with the block of a row: each of the writer's three areas present or not. */
+static void sheet_files(void) {
+    static const size_t two[] = {IDZ_BOOL, IDZ_PLAIN, 0, 0, 0, IDZ_BLOB, IDZ_RUN_LENGTH, 0, 0, 0}, one[] = {IDZ_BOOL, IDZ_PLAIN, 0, 1, 1};
+    static const uint8_t row[] = {1};
+    expect(idz_sheet_open(NULL, 0, 0).number == IDZ_SHEET, "no file opened", -1, -1);
+    for (unsigned missing = 0; missing < 8; missing++) {
+        for (int rows = 0; rows < 2; rows++) {
+            const size_t *list = rows == 0 ? two : one;
+            const size_t list_len = missing & 1 ? 0 : rows == 0 ? 10 : 5, blocks_len = missing & 2 ? 0 : 1;
+            const size_t out_len = missing & 4 ? 0 : sizeof memory.out;
+            struct memory before = memory;
+            idz_written null = idz_sheet_write(missing & 1 ? NULL : list, list_len, missing & 2 ? NULL : row, blocks_len,
+                                               missing & 4 ? NULL : memory.out, out_len);
+            struct memory after = memory;
+            memory = before;
+            void *none = &elsewhere;
+            idz_written other = idz_sheet_write(missing & 1 ? none : list, list_len, missing & 2 ? none : row, blocks_len,
+                                                missing & 4 ? none : memory.out, out_len);
+            uint8_t due = list_len == 5 && blocks_len == 0 ? IDZ_CUT : out_len == 0 ? IDZ_ROOM : IDZ_DONE;
+            size_t len = due != IDZ_DONE ? 0 : list_len == 0 ? 1 : list_len == 5 ? 18 : 33;
+            expect(null.number == due && null.len == len, "a sheet file written", -1, -1);
+            expect(other.number == due && other.len == len && same_memory(after), "and the same without NULL", -1, -1);
+            if (len == 33) {
+                idz_found found = idz_sheet_open(memory.out, len, 1);
+                idz_given given = read_rows(found.reader, memory.out + found.from, found.len, 0, 1, ALL_OF_READING, NULL);
+                expect(found.number == IDZ_DONE && found.from == len && given.number == IDZ_DONE, "no bytes at the file's end", -1, -1);
+                given = read_rows(found.reader, NULL, 0, 0, 1, ALL_OF_READING, NULL);
+                expect(given.number == IDZ_DONE && given.rows == 0, "which are lent as none", -1, -1);
+            }
+            memory = before;
+        }
+    }
+}
+
 int main(void) {
     for (int kind = IDZ_BOOL; kind <= IDZ_F64; kind++) {
         for (int encoding = IDZ_PLAIN; encoding <= IDZ_DICTIONARY; encoding++) {
@@ -189,6 +223,7 @@ int main(void) {
             some(kind, encoding, width);
         }
     }
+    sheet_files();
     expect(given_null == 0, "no NULL goes to the C library", -1, -1);
     printf("%d passed, %d failed\n", passed, failed);
     return failed > 0;

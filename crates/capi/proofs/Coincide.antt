@@ -15,8 +15,10 @@ use Rattle.builder.specs.declared.Builder.{Builder}
 use Rattle.builder.specs.declared.Finished.{Finished}
 use Rattle.builder.specs.declared.Estimated.{Estimated}
 use Rattle.builder.specs.declared.Asked.{Asked}
+use Rattle.sheet.specs.declared.Found.{Found}
+use Rattle.sheet_writer.specs.declared.Written.{Written}
 use Rattle.capi.specs.declared.building.Creation.{Creation}
-use Rattle.capi.specs.Promises.{Opens, Reads, Remains, Creates, Finishes, Estimates, Asks}
+use Rattle.capi.specs.Promises.{Opens, Reads, Remains, Creates, Finishes, Estimates, Asks, OpensColumn, WritesSheet}
 
 -- ---- reading
 pub one-opening : (kind encoding width rows : ℕ) (block : List ℕ) (x y : Opening) → Opens kind encoding width rows block x → Opens kind encoding width rows block y → x ≡ y
@@ -42,3 +44,11 @@ one-estimate builder x y p q = p ∙ sym q
 
 pub one-should-finish : (builder : Builder) (present : Bool) (len : ℕ) (x y : Asked) → Asks builder present len x → Asks builder present len y → x ≡ y
 one-should-finish builder present len x y p q = p ∙ sym q
+
+-- ---- sheet files
+pub one-column : (file : List ℕ) (column : ℕ) (x y : Found) → OpensColumn file column x → OpensColumn file column y → x ≡ y
+one-column file column x y p q = p ∙ sym q
+
+pub one-sheet : (columns blocks room : List ℕ) (x y : Written) (a b : List ℕ)
+    → WritesSheet columns blocks room x a → WritesSheet columns blocks room y b → (x ≡ y) × (a ≡ b)
+one-sheet columns blocks room x y a b p q = (p .0 ∙ sym (q .0), p .1 ∙ sym (q .1))

@@ -16,6 +16,10 @@ use Rattle.builder.specs.declared.Estimated.{Estimated}
 use Rattle.builder.specs.declared.Asked.{Asked}
 use Rattle.builder.specs.Building.{created}
 use Rattle.builder.specs.Finishing.{finished, estimated, asked}
+use Rattle.sheet.specs.declared.Found.{Found}
+use Rattle.sheet.specs.Sheet.{columnFound}
+use Rattle.sheet_writer.specs.declared.Written.{Written}
+use Rattle.sheet_writer.specs.Writing.{write}
 use Rattle.capi.specs.declared.building.Creation.{Creation}
 use Rattle.capi.specs.Answers.{creationOf}
 
@@ -46,3 +50,10 @@ Estimates builder answer = answer ≡ estimated builder
 
 abbrev pub Asks : (builder : Builder) (present : Bool) (len : ℕ) → Asked → Type 0
 Asks builder present len answer = answer ≡ asked builder present len
+
+-- ---- sheet files
+abbrev pub OpensColumn : (file : List ℕ) (column : ℕ) → Found → Type 0
+OpensColumn file column answer = answer ≡ columnFound file column
+
+abbrev pub WritesSheet : (columns blocks room : List ℕ) → Written → List ℕ → Type 0
+WritesSheet columns blocks room answer out = (answer ≡ write columns blocks room .answer) × (out ≡ write columns blocks room .out)

@@ -1,4 +1,4 @@
--- 01's limits, by name. Assumes nothing.
+-- The limits of 01 and 02, by name. Assumes nothing.
 use Prim.Native.Nat.{ℕ}
 use mathlib.Core.Bool.{Bool, _||_}
 use lib.Dec.{eqb}
@@ -34,6 +34,13 @@ MOST_INPUT = 65536
 -- bytes of a char item
 abbrev pub MOST_WIDTH : ℕ
 MOST_WIDTH = 255
+
+-- bytes of a sheet file, and its columns
+abbrev pub MOST_FILE : ℕ
+MOST_FILE = 16777216
+
+abbrev pub MOST_COLUMNS : ℕ
+MOST_COLUMNS = 64
 
 -- an encoded item of a fixed kind is one, two, four or eight bytes wide
 abbrev pub isWidth : ℕ → Bool

@@ -1,4 +1,4 @@
--- 01's refusal numbers, by name; 0 is done. Assumes nothing.
+-- The refusal numbers of 01 and 02, by name; 0 is done. Assumes nothing.
 use Prim.Native.Nat.{ℕ}
 
 -- kind, encoding or width not as 01 has them
@@ -60,3 +60,15 @@ SUM = 16
 -- a stored char or string item isn't text
 abbrev pub TEXT : ℕ
 TEXT = 17
+
+-- a sheet file has no such column
+abbrev pub NO_COLUMN : ℕ
+NO_COLUMN = 20
+
+-- a sheet file is empty, names more than 64 columns or ends in its directory
+abbrev pub SHEET : ℕ
+SHEET = 21
+
+-- a column's block begins in the directory or ends behind the file
+abbrev pub OUTSIDE : ℕ
+OUTSIDE = 22

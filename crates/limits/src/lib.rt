@@ -1,4 +1,4 @@
-// The limits of a block, by name. Each number is written here for the code, and in specs/Limits.antt for the definitions.
+// The limits of a block and of a sheet file, by name. Each number is written here for the code, and in specs/Limits.antt for the definitions.
 pub mod refusal;
 
 // The most rows of a block.
@@ -24,3 +24,8 @@ pub const MOST_INPUT: usize = 65_536;
 
 // The most bytes of a char item.
 pub const MOST_WIDTH: usize = 255;
+
+// The most bytes of a sheet file, and the most columns.
+pub const MOST_FILE: usize = 16_777_216;
+
+pub const MOST_COLUMNS: usize = 64;

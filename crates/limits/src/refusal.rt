@@ -44,3 +44,12 @@ pub const SUM: u8 = 16;
 
 // A stored char or string item isn't text.
 pub const TEXT: u8 = 17;
+
+// A sheet file has no such column.
+pub const NO_COLUMN: u8 = 20;
+
+// A sheet file is empty, names more than 64 columns or ends in its directory.
+pub const SHEET: u8 = 21;
+
+// A column's block begins in the directory or ends behind the file.
+pub const OUTSIDE: u8 = 22;

@@ -24,8 +24,9 @@ use Rattle.block.specs.declared.Left.{Left}
 use Rattle.block.specs.declared.Opened.{Opened}
 use Rattle.block.specs.declared.Opened.the-variants.{Open, Refused}
 use Rattle.block.specs.Reading.{areas, opened, left, remainingIn, remaining, read}
-use Rattle.text.specs.declared.Descriptor.{Descriptor}
-use Rattle.text.specs.Descriptor.{descriptorOf, describedOpened, inputOpened, blockIn}
+use Rattle.descriptor.specs.declared.Descriptor.{Descriptor}
+use Rattle.descriptor.specs.Descriptor.{descriptorOf, describedOpened}
+use Rattle.text.specs.Input.{inputOpened, blockIn}
 use Rattle.reading_laws.specs.Calls.{afterAll}
 use Rattle.reading_laws.proofs.Calls.{found, counts-add-up}
 use Rattle.reading_laws.proofs.Consequences.{read-depends-on-the-block-alone}
@@ -129,7 +130,7 @@ rows-given {b = b} room l (suc m) r is g =
     ap (λ (t : Bool). cond t (rowsRefused m (nextRow r b room .reader) b room) (nextRow r b room .number)) (eq-eqb (nextRow r b room .number) 0 (x .number))
     ∙ rows-given room l m (nextRow r b room .reader) (x .rest) (x .stands)
 
-opened-listed : (kind encoding width n : ℕ) (b : List ℕ) (r : Reader) → opened kind encoding width n b ≡ Open r → length b ≤ MOST_INPUT → listed r b ≡ 0
+pub opened-listed : (kind encoding width n : ℕ) (b : List ℕ) (r : Reader) → opened kind encoding width n b ≡ Open r → length b ≤ MOST_INPUT → listed r b ≡ 0
 unfolding afterAll
 opened-listed kind encoding width n b r here l =
     let z = counts-add-up kind encoding width n b r here [] .0 in

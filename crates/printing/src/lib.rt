@@ -4,7 +4,7 @@ ghost use mathlib.Core.Path.{_≡_};
 ghost use lib.ListN.{length, take};
 ghost use Rattle.limits.specs.Limits.{MOST_INPUT};
 ghost use Rattle.block.specs.Reading.{remaining};
-ghost use Rattle.text.specs.Descriptor.{inputOpened};
+ghost use Rattle.text.specs.Input.{inputOpened};
 ghost use Rattle.printing.specs.Printing.{refusalOf, nextRow, rowsRefused, listed};
 use block::Given;
 use block::Opened;
@@ -71,7 +71,8 @@ fn say_line(word: &[u8], n: u64) {
     say(b"\n");
 }
 
-fn say_refused(number: u8) {
+// A refusal's line.
+pub fn say_refused(number: u8) {
     say_line(b"refused ", number as u64);
 }
 

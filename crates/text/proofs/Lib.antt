@@ -1,4 +1,4 @@
-pub mod Openings
+pub mod Inputs
 pub mod Numbers
 pub mod Laying
 pub mod Sample

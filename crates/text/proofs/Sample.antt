@@ -11,7 +11,8 @@ use Rattle.nullable.specs.Nullable as Nullable
 use Rattle.format.specs.Blocks as Blocks
 use Rattle.format.specs.Opening as Opening
 use Rattle.block.specs.Reading as Reading
-use Rattle.text.specs.Descriptor as Descriptor
+use Rattle.descriptor.specs.Descriptor as Descriptor
+use Rattle.text.specs.Input as Input
 use Rattle.text.specs.Text as Text
 use Rattle.text.specs.Listing as Listing
 
@@ -27,16 +28,16 @@ unfolding Kinds.numbered Kinds.kindOf Rows.intIn Rows.bytesIn Rules.firstOf Plai
     Nullable.bitmapLength Nullable.plainPart Nullable.bitmapPart Nullable.trailerOf Nullable.nullableNumber Nullable.bitAt
     Nullable.nullableRow Blocks.withEncoding Blocks.columnOf Opening.rulesOf Opening.mostRows Opening.columnNumber Opening.openNumber
     Opening.headOf Opening.rowAt Opening.placesOf Opening.rowsOf Reading.headIn Reading.openedBy Reading.opened Descriptor.describedOpened
-    Descriptor.inputOpened Descriptor.blockIn Text.decimalIn Text.numberText Text.isInterval Text.valueText Text.intText Text.rowText
+    Input.inputOpened Input.blockIn Text.decimalIn Text.numberText Text.isInterval Text.valueText Text.intText Text.rowText
     Listing.lineOf Listing.rowLines Listing.moreLine Listing.soundListing Listing.listingBy Listing.listingOf
 lists-C = refl
 
 -- seven bytes: refused 10; the zero bit set: refused 1
 pub lists-seven : Listing.listingOf (0 ∷ 0 ∷ 0 ∷ 0 ∷ 0 ∷ 0 ∷ 0 ∷ []) ≡ 114 ∷ 101 ∷ 102 ∷ 117 ∷ 115 ∷ 101 ∷ 100 ∷ 32 ∷ 49 ∷ 48 ∷ 10 ∷ []
-unfolding Descriptor.inputOpened Descriptor.blockIn Text.decimalIn Listing.lineOf Listing.listingBy Listing.listingOf
+unfolding Input.inputOpened Input.blockIn Text.decimalIn Listing.lineOf Listing.listingBy Listing.listingOf
 lists-seven = refl
 
 pub lists-zero-bit : Listing.listingOf (0x12 ∷ 0x01 ∷ 0 ∷ 0 ∷ 0 ∷ 0 ∷ 0 ∷ 0x03 ∷ []) ≡ 114 ∷ 101 ∷ 102 ∷ 117 ∷ 115 ∷ 101 ∷ 100 ∷ 32 ∷ 49 ∷ 10 ∷ []
-unfolding Descriptor.describedOpened Descriptor.inputOpened Descriptor.blockIn Text.decimalIn Listing.lineOf Listing.listingBy
+unfolding Descriptor.describedOpened Input.inputOpened Input.blockIn Text.decimalIn Listing.lineOf Listing.listingBy
     Listing.listingOf
 lists-zero-bit = refl

@@ -1,3 +1,3 @@
-pub mod Descriptor
+pub mod Input
 pub mod Text
 pub mod Listing

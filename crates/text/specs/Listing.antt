@@ -13,7 +13,7 @@ use Rattle.format.specs.Blocks.{columnOf}
 use Rattle.format.specs.Opening.{rowsOf}
 use Rattle.block.specs.declared.Opened.{Opened}
 use Rattle.block.specs.declared.Opened.the-variants.{Open, Refused}
-use Rattle.text.specs.Descriptor.{inputOpened, blockIn}
+use Rattle.text.specs.Input.{inputOpened, blockIn}
 use Rattle.text.specs.Text.{decimal, rowText}
 
 -- ---- the words, in ASCII

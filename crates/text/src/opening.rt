@@ -1,34 +1,8 @@
-// The eight descriptor bytes taken apart, and a block opened by them.
+// The listing program's input, opened.
 ghost use mathlib.Core.Path.{_≡_};
-ghost use lib.ListN.{take};
-ghost use Rattle.text.specs.Descriptor.{descriptorOf, describedOpened, inputOpened, blockIn};
-use crate::Descriptor;
+ghost use Rattle.text.specs.Input.{inputOpened, blockIn};
 use block::Opened;
 use limits::refusal;
-
-// Bit-packed, the most significant first: kind 4 bits, encoding 3, width 8, zero 1, rows 48.
-pub fn unpack(bytes: [u8; 8]) -> Descriptor
-    ensures { λ r. ⌜ r ≡ descriptorOf (take 8 bytes) ⌝ }
-{
-    let n = encode::high8(bytes);
-    Descriptor {
-        kind: (n / 0x1000_0000_0000_0000) as usize,
-        encoding: (n / 0x0200_0000_0000_0000 % 8) as usize,
-        width: (n / 0x0002_0000_0000_0000 % 256) as usize,
-        zero: (n / 0x0001_0000_0000_0000 % 2) as usize,
-        rows: (n % 0x0001_0000_0000_0000) as usize,
-    }
-}
-
-// The zero bit set counts as opening's 1.
-pub fn open_by(d: Descriptor, block: &[u8]) -> Opened
-    ensures { λ r. ⌜ r ≡ describedOpened d (now (block .entry)) ⌝ }
-{
-    if d.zero != 0 {
-        return Opened::Refused(refusal::COLUMN);
-    }
-    block::open(d.kind, d.encoding, d.width, d.rows, block)
-}
 
 // The listing program's input: a descriptor and a block.
 pub fn open(input: &[u8]) -> Opened
@@ -40,7 +14,7 @@ pub fn open(input: &[u8]) -> Opened
     if limits::MOST_INPUT < input.len() {
         return Opened::Refused(refusal::LIMIT);
     }
-    let d = unpack([
+    let d = descriptor::unpack([
         input[0],
         input[1],
         input[2],
@@ -50,7 +24,7 @@ pub fn open(input: &[u8]) -> Opened
         input[6],
         input[7],
     ]);
-    open_by(d, &input[8..])
+    descriptor::open_by(d, &input[8..])
 }
 
 // The input's block: what follows the descriptor.

@@ -11,6 +11,8 @@
 // 6 lends the block at another length from here on: the length.
 use block::Opened;
 use block::Reader;
+use parts_by::parts;
+use parts_by::put;
 use script::byte;
 use script::first;
 use script::number;
@@ -31,62 +33,7 @@ struct State {
     reader: Reader,
 }
 
-// The place after a part of the block: in the input, and in the block.
-struct Places {
-    at: usize,
-    to: usize,
-}
-
 // ---- blocks
-
-fn put(block: &mut [u8], to: usize, b: u8) {
-    if to < block.len() {
-        block[to] = b;
-    }
-}
-
-// The n bytes of the input from a place on, into the block.
-fn copy(s: &[u8], at: usize, n: usize, block: &mut [u8], to: usize) {
-    let mut i = 0;
-    while i < n {
-        put(block, past(to, i), byte(s, past(at, i)));
-        i += 1;
-    }
-}
-
-// The same so many times, one after another. What comes back is the place after them.
-fn copies(s: &[u8], at: usize, n: usize, times: usize, block: &mut [u8], to: usize) -> usize {
-    let mut next = to;
-    let mut left = times;
-    while 0 < left {
-        copy(s, at, n, block, next);
-        next = past(next, n);
-        left -= 1;
-    }
-    next
-}
-
-// One part.
-fn part(s: &[u8], from: Places, block: &mut [u8]) -> Places {
-    let times = number(s, from.at);
-    let n = number(s, times.next);
-    Places {
-        at: past(n.next, n.value),
-        to: copies(s, n.next, n.value, times.value, block, from.to),
-    }
-}
-
-// All the parts.
-fn parts(s: &[u8], at: usize, block: &mut [u8]) -> Places {
-    let n = number(s, at);
-    let mut places = Places { at: n.next, to: 0 };
-    let mut left = n.value;
-    while 0 < left {
-        places = part(s, places, block);
-        left -= 1;
-    }
-    places
-}
 
 fn load(s: &[u8], state: State, block: &mut [u8]) -> State {
     let places = parts(s, state.at, block);

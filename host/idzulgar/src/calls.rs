@@ -131,6 +131,27 @@ pub struct Asked {
     pub builder: BuilderRecord,
 }
 
+/// What opening a column of a sheet file answers: where in the file its block lies, which the calls on its record take. Beside a refusal
+/// both are 0, and the record is the one that stands beside a refused opening.
+#[repr(C)]
+#[derive(Clone, Copy, Debug, PartialEq, Eq)]
+#[allow(missing_docs)]
+pub struct Found {
+    pub number: u8,
+    pub from: usize,
+    pub len: usize,
+    pub reader: ReaderRecord,
+}
+
+/// What writing a sheet file answers: the bytes written.
+#[repr(C)]
+#[derive(Clone, Copy, Debug, PartialEq, Eq)]
+#[allow(missing_docs)]
+pub struct Written {
+    pub number: u8,
+    pub len: usize,
+}
+
 /// The six areas of a builder: items (fixed and char items at their width, data of blob and string), their ends, flags (a bit an
 /// item), the runs' counts, the key runs' keys, the char items' lengths.
 #[derive(Debug)]
@@ -201,6 +222,15 @@ extern "C" {
     ) -> Finished;
     fn idz_estimate(builder: BuilderRecord) -> Estimated;
     fn idz_should_finish(builder: BuilderRecord, present: u8, len: usize) -> Asked;
+    fn idz_sheet_open(file: *const u8, file_len: usize, column: usize) -> Found;
+    fn idz_sheet_write(
+        columns: *const usize,
+        columns_len: usize,
+        blocks: *const u8,
+        blocks_len: usize,
+        out: *mut u8,
+        out_len: usize,
+    ) -> Written;
 }
 
 /// Opens a block of `rows` rows.
@@ -323,4 +353,17 @@ pub fn estimate(builder: BuilderRecord) -> Estimated {
 pub fn should_finish(builder: BuilderRecord, present: bool, len: usize) -> Asked {
     // SAFETY: see the head of this file.
     unsafe { idz_should_finish(builder, u8::from(present), len) }
+}
+
+/// Opens a column of a sheet file, counted from 0. The calls on its record take `&file[from..from + len]`.
+pub fn sheet_open(file: &[u8], column: usize) -> Found {
+    // SAFETY: see the head of this file.
+    unsafe { idz_sheet_open(file.as_ptr(), file.len(), column) }
+}
+
+/// Writes a sheet file into the room: `columns` has each one's kind, encoding, width, rows and block length, `blocks` the blocks one after
+/// another.
+pub fn sheet_write(columns: &[usize], blocks: &[u8], out: &mut [u8]) -> Written {
+    // SAFETY: see the head of this file.
+    unsafe { idz_sheet_write(columns.as_ptr(), columns.len(), blocks.as_ptr(), blocks.len(), out.as_mut_ptr(), out.len()) }
 }

@@ -2,8 +2,8 @@
 //!
 //! The work is done by a static library whose every answer is proved: a row, or a refusal with its number. This crate adds what a
 //! Rust service expects around it: a [`Builder`] that keeps its memory, a [`Reader`] that keeps its block, a [`Refusal`] that says
-//! what a number means, rows by batch or by iterator, a [count of the nulls](Reader::nulls) among them. No function here
-//! panics, whatever the block holds, and memory grows only as the caller asks.
+//! what a number means, rows by batch or by iterator, a [count of the nulls](Reader::nulls) among them, and a [`Sheet`] of many columns
+//! in one file. No function here panics, whatever the block holds, and memory grows only as the caller asks.
 //!
 //! ```
 //! use idzulgar::{Column, Encoding, Kind, Reader, Refusal, Value};
@@ -84,9 +84,11 @@ mod builder;
 mod column;
 mod reader;
 mod refusal;
+mod sheet;
 
 pub use batch::{Batch, Row, Value};
 pub use builder::Builder;
 pub use column::{Column, Encoding, Kind};
 pub use reader::{Reader, Rows};
 pub use refusal::Refusal;
+pub use sheet::{write_sheet, Sheet};

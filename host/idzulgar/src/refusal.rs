@@ -37,18 +37,25 @@ pub enum Refusal {
     Sum,
     /// 17: a stored char or string item isn't text.
     Text,
+    /// 20: the sheet file has no such column.
+    NoColumn,
+    /// 21: the sheet file is empty, has over 64 columns, or is cut in its directory; to be written, it would have over 64, or the list of
+    /// their numbers is cut.
+    Sheet,
+    /// 22: a sheet file's block begins before the directory's end or ends behind the file's.
+    Outside,
     /// A number that this version doesn't know.
     Other(u8),
 }
 
 /// Each refusal with its number and what it means.
-const TABLE: [(u8, Refusal, &str); 15] = [
+const TABLE: [(u8, Refusal, &str); 18] = [
     (1, Refusal::Column, "kind, encoding or width is not one of the pairs"),
     (2, Refusal::Item, "the item doesn't fit its kind"),
     (
         3,
         Refusal::Limit,
-        "a limit is passed (rows 281474976710655, stored items or runs 1048576, entries 65536, block 16777216 bytes)",
+        "a limit is passed (rows 281474976710655, stored items or runs 1048576, entries 65536, block or sheet file 16777216 bytes)",
     ),
     (4, Refusal::Room, "lent room is too short for the whole answer"),
     (6, Refusal::NoRows, "nothing asked for: a read that passes over no rows and gives none"),
@@ -62,6 +69,9 @@ const TABLE: [(u8, Refusal, &str); 15] = [
     (15, Refusal::Key, "a dictionary key names no entry"),
     (16, Refusal::Sum, "the run counts don't add up to the rows"),
     (17, Refusal::Text, "a char or string item isn't text"),
+    (20, Refusal::NoColumn, "the sheet file has no such column"),
+    (21, Refusal::Sheet, "the sheet file is empty, has over 64 columns, or is cut in its directory"),
+    (22, Refusal::Outside, "a block of the sheet file begins before the directory's end or ends behind the file's"),
 ];
 
 impl Refusal {

@@ -1,8 +1,9 @@
 //! Calls whose answers are held to the model.
-use idzulgar::calls::{self, Given, ReaderRecord};
+use idzulgar::calls::{self, Found, Given, ReaderRecord, Written};
 use idzulgar::Column;
 
 use super::reads::{self, Areas};
+use super::sheets;
 
 /// Opens a block that is sound.
 pub fn open(column: Column, rows: usize, block: &[u8]) -> ReaderRecord {
@@ -28,4 +29,46 @@ pub fn read(reader: ReaderRecord, block: &[u8], skip: usize, size: usize) -> Giv
 /// A refusal: no rows, no bytes, and the reader that was given.
 pub fn refused(number: u8, reader: ReaderRecord) -> Given {
     Given { number, rows: 0, bytes: 0, reader }
+}
+
+/// The first bytes of a file, which may have millions.
+pub fn start_of(file: &[u8]) -> String {
+    format!("{:02X?} of {} bytes", &file[..file.len().min(120)], file.len())
+}
+
+/// The record beside a refused opening.
+pub fn no_reader() -> ReaderRecord {
+    let none = calls::open(12, 0, 0, 0, &[]);
+    assert_eq!((none.number, none.reader.kind), (1, 255));
+    none.reader
+}
+
+/// Opens a column of a sheet file. Its record is to be the one that its block is opened with by itself.
+pub fn sheet_open(file: &[u8], j: usize) -> Found {
+    let due = match sheets::found(file, j) {
+        Err(number) => Found { number, from: 0, len: 0, reader: no_reader() },
+        Ok((entry, block)) => {
+            let reader = open(entry.column().expect("a pair"), entry.rows as usize, block);
+            Found { number: 0, from: entry.offset as usize, len: block.len(), reader }
+        }
+    };
+    let found = calls::sheet_open(file, j);
+    assert_eq!(found, due, "column {j} of {}", start_of(file));
+    found
+}
+
+/// Writes a sheet file into room that it may change.
+pub fn sheet_write(columns: &[usize], blocks: &[u8], out: &mut Vec<u8>) -> Written {
+    let (mut due, mut left) = (Written { number: 0, len: 0 }, out.clone());
+    match sheets::written(columns, blocks, out.len()) {
+        Err(number) => due.number = number,
+        Ok(file) => {
+            due.len = file.len();
+            left[..file.len()].copy_from_slice(&file);
+        }
+    }
+    let answer = calls::sheet_write(columns, blocks, out);
+    assert_eq!(answer, due, "{columns:?} {}", start_of(blocks));
+    assert!(*out == left, "{columns:?} {}: {}, not {}", start_of(blocks), start_of(out), start_of(&left));
+    answer
 }

@@ -1,10 +1,11 @@
 //! A reading of documents 01 and 02 in plain Rust, for the tests: the block of a list of rows, opening's number, the rows of a sound
-//! block, and a read's answer on any record and any bytes. It is written from the documents' words, takes no care for speed, and shares no
-//! code with the library.
+//! block, a read's answer on any record and any bytes, and sheet files. It is written from the documents' words, takes no care for speed, and
+//! shares no code with the library.
 #![allow(dead_code)]
 
 pub mod held;
 pub mod reads;
+pub mod sheets;
 
 use idzulgar::{Column, Encoding, Kind, Value};
 

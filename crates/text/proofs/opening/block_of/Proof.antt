@@ -1,7 +1,7 @@
 -- `block_of` meets its contract: the test tells which case of `blockIn` it is. Assumes nothing.
 use borrow.Author.Needs.{needs}
 use native.Mathlib.Omega.{arith}
-use Rattle.text.proofs.Openings as laws
+use Rattle.text.proofs.Inputs as laws
 use Rattle.text.proofs.opening.block_of.Statement.{statement}
 use Rattle.text.proofs.opening.block_of.Tie as tie
 

@@ -1,7 +1,7 @@
 -- `open` meets its contract: each return by the law of the tests that led there. Assumes nothing.
 use borrow.Author.Needs.{needs}
 use native.Mathlib.Omega.{arith}
-use Rattle.text.proofs.Openings as laws
+use Rattle.text.proofs.Inputs as laws
 use Rattle.text.proofs.opening.open.Statement.{statement}
 use Rattle.text.proofs.opening.open.Tie as tie
 

@@ -1,7 +1,7 @@
 //! Reads and builds the same blocks by the port and by the original, in one run, and prints tables for docs/BENCHMARKS.md.
 //!
-//!     bench [reading|building|runs|texts]                  times: nanoseconds a row, best of several rounds, and ratios
-//!     bench instructions [reading|building|runs|texts]     instructions a row by the script `count`: the same whatever else the machine does
+//!     bench [reading|building|runs|texts|sheets]                  times: nanoseconds a row, best of several rounds, and ratios
+//!     bench instructions [reading|building|runs|texts|sheets]     instructions a row by the script `count`, whatever else the machine does
 use std::hint::black_box;
 use std::process::Command;
 use std::time::Instant;
@@ -12,6 +12,7 @@ mod building;
 mod by_hand;
 mod reading;
 mod runs;
+mod sheets;
 mod texts;
 
 /// The five cases of the design.
@@ -78,25 +79,30 @@ fn main() {
             building::times();
             runs::times();
             texts::times();
+            sheets::times();
         }
         ["reading"] => reading::times(),
         ["building"] => building::times(),
         ["runs"] => runs::times(),
         ["texts"] => texts::times(),
+        ["sheets"] => sheets::times(),
         ["instructions"] => {
             reading::instructions();
             building::instructions();
             runs::instructions();
             texts::instructions();
+            sheets::instructions();
         }
         ["instructions", "reading"] => reading::instructions(),
         ["instructions", "building"] => building::instructions(),
         ["instructions", "runs"] => runs::instructions(),
         ["instructions", "texts"] => texts::instructions(),
+        ["instructions", "sheets"] => sheets::instructions(),
         ["count", "reading", ref words @ ..] => reading::count(words),
         ["count", "building", ref words @ ..] => building::count(words),
         ["count", "runs", ref words @ ..] => runs::count(words),
         ["count", "texts", ref words @ ..] => texts::count(words),
-        _ => panic!("bench [instructions] [reading|building|runs|texts]"),
+        ["count", "sheets", ref words @ ..] => sheets::count(words),
+        _ => panic!("bench [instructions] [reading|building|runs|texts|sheets]"),
     }
 }

@@ -1,0 +1,4 @@
+pub mod Columns
+pub mod Files
+pub mod Loops
+pub mod Answers
