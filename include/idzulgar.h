@@ -51,7 +51,8 @@ enum {
     IDZ_NO_COLUMN = 20,  /* the sheet file has no such column */
     IDZ_SHEET = 21,      /* the sheet file is empty, has over 64 columns, or is cut in its directory; to be written, it would have over
                             64, or the list of their numbers is cut */
-    IDZ_OUTSIDE = 22     /* a sheet file's block begins before the directory's end or ends behind the file's */
+    IDZ_OUTSIDE = 22,    /* a sheet file's block begins before the directory's end or ends behind the file's */
+    IDZ_UNLIKE = 25      /* two columns to be compared differ in their kinds or in their widths */
 };
 
 /* Kinds. Width is 1 to 255 for char and 0 for every other kind. The items of char and string are text, which is well-formed UTF-8 (the
@@ -148,6 +149,17 @@ typedef struct {
     size_t len; /* bytes written */
 } idz_written;
 
+/* What a block is opened by, as one record. `zero` is the bit between width and rows in a descriptor's bytes, as they stand in a sheet
+ * file's directory (below): any number but 0 is that bit set, which is opening's 1. */
+typedef struct {
+    size_t kind, encoding, width, zero, rows;
+} idz_descriptor;
+
+typedef struct {
+    uint8_t number;
+    size_t ranges; /* ranges written, and there are no others */
+} idz_compared;
+
 /* Opens a block of `rows` rows: 0 exactly for a sound block, else 1, 3 or 10 to 17. The block isn't kept: lend it to each call. */
 idz_opening idz_open(size_t kind, size_t encoding, size_t width, size_t rows, const uint8_t *block, size_t block_len);
 
@@ -218,6 +230,27 @@ idz_found idz_sheet_open(const uint8_t *file, size_t file_len, size_t column);
  * file. */
 idz_written idz_sheet_write(const size_t *columns, size_t columns_len, const uint8_t *blocks, size_t blocks_len, uint8_t *out,
                             size_t out_len);
+
+/* Tells which rows of two sound blocks differ. The blocks are of one kind and width, in any encodings, and may be the same memory. Rows are
+ * compared as idz_read gives them, each with that of the same number: a null equals a null alone, and neither 0 nor no bytes; an f64 equals
+ * the same bits; char, blob and string equal the same bytes. A row that only one block has differs.
+ *
+ * The answer is ranges of rows, counted from 0: each one's first row goes to `firsts` and its last, which belongs to it, to `lasts`, at the
+ * same place. They ascend, and each is as long as it can be, so between two of them lies a row that doesn't differ. Equal rows and equal
+ * numbers of them give no ranges, which need no room. Slots behind the ranges stay.
+ *
+ *     idz_descriptor yesterday = {IDZ_F64, IDZ_DICTIONARY, 0, 0, 400}, today = {IDZ_F64, IDZ_RUN_LENGTH_NULLABLE, 0, 0, 402};
+ *     idz_compared compared = idz_compare(yesterday, before, before_len, today, after, after_len, firsts, 100, lasts, 100);
+ *     if (compared.number != IDZ_DONE) return compared.number;
+ *     for (size_t at = 0; at < compared.ranges; at++) printf("%zu %zu\n", firsts[at], lasts[at]);
+ *
+ * Refuses in this order: 25 if kinds or widths differ as the numbers that they are, whether or not there are such; what opening refuses the
+ * first block as, a zero bit that is set being its 1; what it refuses the second as; 4 if either list is shorter than the number of ranges.
+ *
+ * It takes a step for each run of either block (in encodings 0 and 1 for each row), however many rows the runs have, and a step compares one
+ * item with one. */
+idz_compared idz_compare(idz_descriptor a, const uint8_t *first, size_t first_len, idz_descriptor b, const uint8_t *second,
+                         size_t second_len, size_t *firsts, size_t firsts_len, size_t *lasts, size_t lasts_len);
 
 #ifdef __cplusplus
 }

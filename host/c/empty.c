@@ -80,9 +80,11 @@ static int same_reader(idz_reader one, idz_reader other) { return memcmp(&one, &
 
 static int same_memory(struct memory one) { return memcmp(&one, &memory, sizeof one) == 0; }
 
+/* What no bytes are opened as, by encoding. */
+static const uint8_t opens[] = {IDZ_DONE, IDZ_CUT, IDZ_DONE, IDZ_DONE, IDZ_CUT};
+
 /* No memory at all: nothing to read from and none to build in. */
 static void nothing(int kind, int encoding, size_t width) {
-    static const uint8_t opens[] = {IDZ_DONE, IDZ_CUT, IDZ_DONE, IDZ_DONE, IDZ_CUT};
     static const uint8_t finishes[] = {IDZ_DONE, IDZ_ROOM, IDZ_DONE, IDZ_DONE, IDZ_ROOM};
     idz_opening opening = idz_open((size_t)kind, (size_t)encoding, width, 0, NULL, 0);
     expect(opening.number == opens[encoding], "no bytes opened", kind, encoding);
@@ -215,12 +217,38 @@ static void sheet_files(void) {
     }
 }
 
+/* Two columns of a row each compared: of a block that is missing the column has no rows, of a list that is missing no slots. */
+static void comparing(int kind, int encoding, size_t width) {
+    idz_builder builder = append(idz_create((size_t)kind, (size_t)encoding, width, 0).builder, 0, NULL, ONE_BYTE).builder;
+    size_t len = finish(builder, 0, NULL).len;
+    for (unsigned missing = 0; missing < 16; missing++) {
+        idz_descriptor first = {(size_t)kind, (size_t)encoding, width, 0, 1}, second = first;
+        first.rows -= missing & 1, second.rows -= missing >> 1 & 1;
+        size_t ranges = first.rows != second.rows;
+        uint8_t due = missing & 3 ? opens[encoding] : IDZ_DONE;
+        if (due == IDZ_DONE && ranges > 0 && missing & 12) {
+            due = IDZ_ROOM;
+        }
+        for (int pointer = 0; pointer < 2; pointer++) {
+            void *none = pointer == 0 ? NULL : &elsewhere;
+            size_t firsts[] = {77, 77}, lasts[] = {77, 77};
+            idz_compared answer = idz_compare(first, missing & 1 ? none : memory.out, missing & 1 ? 0 : len, second,
+                                              missing & 2 ? none : memory.out, missing & 2 ? 0 : len, missing & 4 ? none : firsts,
+                                              missing & 4 ? 0 : 2, missing & 8 ? none : lasts, missing & 8 ? 0 : 2);
+            size_t written = due == IDZ_DONE ? ranges : 0, slot = written > 0 ? 0 : 77;
+            expect(answer.number == due && answer.ranges == written, "columns compared", kind, encoding);
+            expect(firsts[0] == slot && lasts[0] == slot && firsts[1] == 77 && lasts[1] == 77, "and the slots", kind, encoding);
+        }
+    }
+}
+
 int main(void) {
     for (int kind = IDZ_BOOL; kind <= IDZ_F64; kind++) {
         for (int encoding = IDZ_PLAIN; encoding <= IDZ_DICTIONARY; encoding++) {
             size_t width = kind == IDZ_CHAR ? 2 : 0;
             nothing(kind, encoding, width);
             some(kind, encoding, width);
+            comparing(kind, encoding, width);
         }
     }
     sheet_files();

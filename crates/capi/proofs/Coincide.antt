@@ -17,8 +17,10 @@ use Rattle.builder.specs.declared.Estimated.{Estimated}
 use Rattle.builder.specs.declared.Asked.{Asked}
 use Rattle.sheet.specs.declared.Found.{Found}
 use Rattle.sheet_writer.specs.declared.Written.{Written}
+use Rattle.descriptor.specs.declared.Descriptor.{Descriptor}
+use Rattle.comparing.specs.declared.Compared.{Compared}
 use Rattle.capi.specs.declared.building.Creation.{Creation}
-use Rattle.capi.specs.Promises.{Opens, Reads, Remains, Creates, Finishes, Estimates, Asks, OpensColumn, WritesSheet}
+use Rattle.capi.specs.Promises.{Opens, Reads, Remains, Creates, Finishes, Estimates, Asks, OpensColumn, WritesSheet, Compares}
 
 -- ---- reading
 pub one-opening : (kind encoding width rows : ℕ) (block : List ℕ) (x y : Opening) → Opens kind encoding width rows block x → Opens kind encoding width rows block y → x ≡ y
@@ -52,3 +54,8 @@ one-column file column x y p q = p ∙ sym q
 pub one-sheet : (columns blocks room : List ℕ) (x y : Written) (a b : List ℕ)
     → WritesSheet columns blocks room x a → WritesSheet columns blocks room y b → (x ≡ y) × (a ≡ b)
 one-sheet columns blocks room x y a b p q = (p .0 ∙ sym (q .0), p .1 ∙ sym (q .1))
+
+-- ---- two blocks
+pub one-compare : (a : Descriptor) (first : List ℕ) (b : Descriptor) (second firsts lasts : List ℕ) (x y : Compared) (f g l m : List ℕ)
+    → Compares a first b second firsts lasts x f l → Compares a first b second firsts lasts y g m → (x ≡ y) × (f ≡ g) × (l ≡ m)
+one-compare a first b second firsts lasts x y f g l m p q = (p .0 ∙ sym (q .0), p .1 ∙ sym (q .1), p .2 ∙ sym (q .2))

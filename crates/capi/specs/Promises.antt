@@ -20,6 +20,9 @@ use Rattle.sheet.specs.declared.Found.{Found}
 use Rattle.sheet.specs.Sheet.{columnFound}
 use Rattle.sheet_writer.specs.declared.Written.{Written}
 use Rattle.sheet_writer.specs.Writing.{write}
+use Rattle.descriptor.specs.declared.Descriptor.{Descriptor}
+use Rattle.comparing.specs.declared.Compared.{Compared}
+use Rattle.comparing.specs.Comparing.{compare}
 use Rattle.capi.specs.declared.building.Creation.{Creation}
 use Rattle.capi.specs.Answers.{creationOf}
 
@@ -57,3 +60,10 @@ OpensColumn file column answer = answer ≡ columnFound file column
 
 abbrev pub WritesSheet : (columns blocks room : List ℕ) → Written → List ℕ → Type 0
 WritesSheet columns blocks room answer out = (answer ≡ write columns blocks room .answer) × (out ≡ write columns blocks room .out)
+
+-- ---- two blocks
+abbrev pub Compares : (a : Descriptor) (first : List ℕ) (b : Descriptor) (second firsts lasts : List ℕ) → Compared → List ℕ → List ℕ → Type 0
+Compares a first b second firsts lasts answer firsts′ lasts′ =
+    (answer ≡ compare a first b second firsts lasts .answer)
+    × (firsts′ ≡ compare a first b second firsts lasts .firsts)
+    × (lasts′ ≡ compare a first b second firsts lasts .lasts)

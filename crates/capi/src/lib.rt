@@ -1,6 +1,7 @@
 // The calls for C and Rust, by the names that include/idzulgar.h declares: numbers, slices and records of numbers go in and
 // come out, and each answer is the one of the crates below.
 mod building;
+mod pairs;
 mod sheets;
 
 use block::Given;

@@ -1,38 +1,14 @@
 // The program `column`: lists one column of a sheet file, as the program `list` lists a block. Its arguments are the file's name and the
 // column's number, counted from 0. A file that can't be read is refused as 21, one above 65,536 bytes as 3, an argument that names no
 // column as 20; the rest are the sheet's own numbers.
-ghost use mathlib.Core.Path.{_≡_};
-ghost use lib.ListN.{length};
 use limits::refusal;
-
-// Room for the longest file that is listed, and a byte more, which tells a longer one.
-fn room() -> [u8; 65537]
-    ensures { λ r. ⌜ 65537 ≡ length r ⌝ }
-{
-    [0; 65537]
-}
-
-// Whether there is nothing to read any more. `io::read_full` stops at the file's end and at a read that fails alike; where it stopped at
-// the end, one read more comes to nothing.
-fn is_at_end(fd: i32) -> bool {
-    let mut more = [0u8; 1];
-    libc::read(fd, &mut more) == 0
-}
-
-// Whether all of a file was read, of which n bytes came, or more than is listed.
-fn is_read(fd: i32, n: usize) -> bool {
-    if limits::MOST_INPUT < n {
-        return true;
-    }
-    is_at_end(fd)
-}
 
 // Lists the column of an open file that the second argument names. Of an argument that is missing, or of more than 4,096 bytes, no bytes
 // come, and no bytes name no column.
 fn list(fd: i32) {
-    let mut file = room();
+    let mut file = whole_file::room();
     let n = io::read_full(fd, &mut file);
-    if !is_read(fd, n) {
+    if !whole_file::is_read(fd, n) {
         column_by::refuse(refusal::SHEET);
         return;
     }

@@ -5,6 +5,7 @@ use mathlib.Core.List.{List}
 use lib.Dec.{eqb}
 use Rattle.limits.specs.Refusals.{COLUMN}
 use Rattle.encode.specs.Bytes.{high-first, big, numberOf}
+use Rattle.format.specs.Opening.{openNumber}
 use Rattle.block.specs.declared.Opened.{Opened}
 use Rattle.block.specs.declared.Opened.the-variants.{Refused}
 use Rattle.block.specs.Reading.{opened}
@@ -36,5 +37,8 @@ abbrev pub descriptorBytes : Descriptor → List ℕ
 descriptorBytes d = big 8 (packedNumber d)
 
 -- a block opened by its descriptor: the zero bit set counts as opening's 1
+unfoldable pub describedNumber : Descriptor → List ℕ → ℕ
+describedNumber d b = cond (eqb (d .zero) 0) (openNumber (d .kind) (d .encoding) (d .width) (d .rows) b) COLUMN
+
 unfoldable pub describedOpened : Descriptor → List ℕ → Opened
 describedOpened d b = cond (eqb (d .zero) 0) (opened (d .kind) (d .encoding) (d .width) (d .rows) b) (Refused COLUMN)

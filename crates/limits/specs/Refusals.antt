@@ -72,3 +72,7 @@ SHEET = 21
 -- a column's block begins in the directory or ends behind the file
 abbrev pub OUTSIDE : ℕ
 OUTSIDE = 22
+
+-- kinds or widths of two blocks that are compared differ
+abbrev pub UNLIKE : ℕ
+UNLIKE = 25

@@ -53,3 +53,6 @@ pub const SHEET: u8 = 21;
 
 // A column's block begins in the directory or ends behind the file.
 pub const OUTSIDE: u8 = 22;
+
+// Kinds or widths of two blocks that are compared differ.
+pub const UNLIKE: u8 = 25;

@@ -1,9 +1,9 @@
--- Rows that are the same as given are equal, and a row is the same as itself. Assumes nothing.
+-- Rows that are the same as given are equal, either way round, and a row is the same as itself. Assumes nothing.
 use Prim.Native.Nat.{ℕ}
 use native.Mathlib.Omega.{arith}
-use mathlib.Core.Bool.{true, and-eq-true-iff}
+use mathlib.Core.Bool.{Bool, true, false, and-eq-true-iff}
 use mathlib.Core.List.{List, [], _∷_}
-use mathlib.Core.Path.{_≡_, refl, ap, _∙_}
+use mathlib.Core.Path.{_≡_, refl, sym, ap, _∙_}
 use lib.Dec.{eqb}
 use lib.IntN.{ℤ, pos, negsuc}
 use borrow.Author.Tests.{eqb-true, eq-eqb}
@@ -56,3 +56,13 @@ unfolding same
 same-self null = refl
 same-self (int v) = self-int v
 same-self (bytes bs) = self-bytes bs
+
+-- either way round
+pub same-sym : (x y : Row) → same x y ≡ same y x
+same-sym x y = go (same x y) (same y x) refl refl
+  where
+    go : (s t : Bool) → same x y ≡ s → same y x ≡ t → s ≡ t
+    go true true p q = refl
+    go false false p q = refl
+    go true false p q = let f : _≡_ {A = Bool} false true = sym q ∙ ap (λ (z : Row). same y z) (same-equal x y p) ∙ same-self y in never cc
+    go false true p q = let f : _≡_ {A = Bool} false true = sym p ∙ ap (λ (z : Row). same x z) (same-equal y x q) ∙ same-self x in never cc

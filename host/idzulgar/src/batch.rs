@@ -177,7 +177,8 @@ impl<'a> From<&'a Value> for Row<'a> {
     }
 }
 
-fn zeros<T: Clone + Default>(count: usize) -> Result<Vec<T>, TryReserveError> {
+/// So many zeros, or no memory for them.
+pub(crate) fn zeros<T: Clone + Default>(count: usize) -> Result<Vec<T>, TryReserveError> {
     let mut all = Vec::new();
     all.try_reserve_exact(count)?;
     all.resize(count, T::default());

@@ -152,6 +152,28 @@ pub struct Written {
     pub len: usize,
 }
 
+/// What a block is opened by, as one record. `zero` is the zero bit of a descriptor's bytes: any number but 0 is the bit set, which is
+/// opening's 1.
+#[repr(C)]
+#[derive(Clone, Copy, Debug, PartialEq, Eq, Hash)]
+#[allow(missing_docs)]
+pub struct Descriptor {
+    pub kind: usize,
+    pub encoding: usize,
+    pub width: usize,
+    pub zero: usize,
+    pub rows: usize,
+}
+
+/// What comparing two blocks answers: the ranges written.
+#[repr(C)]
+#[derive(Clone, Copy, Debug, PartialEq, Eq)]
+#[allow(missing_docs)]
+pub struct Compared {
+    pub number: u8,
+    pub ranges: usize,
+}
+
 /// The six areas of a builder: items (fixed and char items at their width, data of blob and string), their ends, flags (a bit an
 /// item), the runs' counts, the key runs' keys, the char items' lengths.
 #[derive(Debug)]
@@ -231,6 +253,18 @@ extern "C" {
         out: *mut u8,
         out_len: usize,
     ) -> Written;
+    fn idz_compare(
+        a: Descriptor,
+        first: *const u8,
+        first_len: usize,
+        b: Descriptor,
+        second: *const u8,
+        second_len: usize,
+        firsts: *mut usize,
+        firsts_len: usize,
+        lasts: *mut usize,
+        lasts_len: usize,
+    ) -> Compared;
 }
 
 /// Opens a block of `rows` rows.
@@ -366,4 +400,23 @@ pub fn sheet_open(file: &[u8], column: usize) -> Found {
 pub fn sheet_write(columns: &[usize], blocks: &[u8], out: &mut [u8]) -> Written {
     // SAFETY: see the head of this file.
     unsafe { idz_sheet_write(columns.as_ptr(), columns.len(), blocks.as_ptr(), blocks.len(), out.as_mut_ptr(), out.len()) }
+}
+
+/// Compares two blocks, and writes the ranges of rows that differ: the first row of each to `firsts`, the last to `lasts`.
+pub fn compare(a: Descriptor, first: &[u8], b: Descriptor, second: &[u8], firsts: &mut [usize], lasts: &mut [usize]) -> Compared {
+    // SAFETY: see the head of this file.
+    unsafe {
+        idz_compare(
+            a,
+            first.as_ptr(),
+            first.len(),
+            b,
+            second.as_ptr(),
+            second.len(),
+            firsts.as_mut_ptr(),
+            firsts.len(),
+            lasts.as_mut_ptr(),
+            lasts.len(),
+        )
+    }
 }

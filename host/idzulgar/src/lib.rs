@@ -2,8 +2,8 @@
 //!
 //! The work is done by a static library whose every answer is proved: a row, or a refusal with its number. This crate adds what a
 //! Rust service expects around it: a [`Builder`] that keeps its memory, a [`Reader`] that keeps its block, a [`Refusal`] that says
-//! what a number means, rows by batch or by iterator, a [count of the nulls](Reader::nulls) among them, and a [`Sheet`] of many columns
-//! in one file. No function here panics, whatever the block holds, and memory grows only as the caller asks.
+//! what a number means, rows by batch or by iterator, a [count of the nulls](Reader::nulls) among them, a [`Sheet`] of many columns
+//! in one file, and the rows in which two columns differ ([`compare`]). No function here panics, whatever the block holds, and memory grows only as the caller asks.
 //!
 //! ```
 //! use idzulgar::{Column, Encoding, Kind, Reader, Refusal, Value};
@@ -82,6 +82,7 @@ pub mod calls;
 mod batch;
 mod builder;
 mod column;
+mod compare;
 mod reader;
 mod refusal;
 mod sheet;
@@ -89,6 +90,7 @@ mod sheet;
 pub use batch::{Batch, Row, Value};
 pub use builder::Builder;
 pub use column::{Column, Encoding, Kind};
+pub use compare::compare;
 pub use reader::{Reader, Rows};
 pub use refusal::Refusal;
 pub use sheet::{write_sheet, Sheet};

@@ -44,12 +44,14 @@ pub enum Refusal {
     Sheet,
     /// 22: a sheet file's block begins before the directory's end or ends behind the file's.
     Outside,
+    /// 25: two columns to be compared differ in their kinds or in their widths.
+    Unlike,
     /// A number that this version doesn't know.
     Other(u8),
 }
 
 /// Each refusal with its number and what it means.
-const TABLE: [(u8, Refusal, &str); 18] = [
+const TABLE: [(u8, Refusal, &str); 19] = [
     (1, Refusal::Column, "kind, encoding or width is not one of the pairs"),
     (2, Refusal::Item, "the item doesn't fit its kind"),
     (
@@ -72,6 +74,7 @@ const TABLE: [(u8, Refusal, &str); 18] = [
     (20, Refusal::NoColumn, "the sheet file has no such column"),
     (21, Refusal::Sheet, "the sheet file is empty, has over 64 columns, or is cut in its directory"),
     (22, Refusal::Outside, "a block of the sheet file begins before the directory's end or ends behind the file's"),
+    (25, Refusal::Unlike, "the columns differ in their kinds or in their widths"),
 ];
 
 impl Refusal {

@@ -317,7 +317,7 @@ fn long_rows_come_through_the_iterator() {
 #[test]
 fn every_refusal_says_what_it_means() {
     let mut texts = std::collections::HashSet::new();
-    for number in [1, 2, 3, 4, 6, 7, 9, 10, 11, 12, 13, 14, 15, 16, 17, 20, 21, 22, 200] {
+    for number in [1, 2, 3, 4, 6, 7, 9, 10, 11, 12, 13, 14, 15, 16, 17, 20, 21, 22, 25, 200] {
         let refusal = Refusal::check(number).unwrap_err();
         assert_eq!(refusal.number(), number);
         assert!(refusal.to_string().ends_with(&format!("(refusal {number})")));

@@ -2,6 +2,7 @@
 use idzulgar::calls::{self, Found, Given, ReaderRecord, Written};
 use idzulgar::Column;
 
+use super::differences::{self, Lent};
 use super::reads::{self, Areas};
 use super::sheets;
 
@@ -71,4 +72,46 @@ pub fn sheet_write(columns: &[usize], blocks: &[u8], out: &mut Vec<u8>) -> Writt
     assert_eq!(answer, due, "{columns:?} {}", start_of(blocks));
     assert!(*out == left, "{columns:?} {}: {}, not {}", start_of(blocks), start_of(out), start_of(&left));
     answer
+}
+
+/// Slots that hold numbers which are no rows, and some more behind those that are lent.
+fn slots(lent: usize, from: usize) -> Vec<usize> {
+    (0..lent + 3).map(|place| from - place).collect()
+}
+
+/// Compares two blocks with so many slots in both lists: the ranges, or the number. Every slot that isn't a range's has to stay.
+pub fn ranges(one: &Lent, other: &Lent, firsts: usize, lasts: usize) -> Result<Vec<(usize, usize)>, u8> {
+    let before = [slots(firsts, usize::MAX), slots(lasts, usize::MAX >> 1)];
+    let [mut first_rows, mut last_rows] = before.clone();
+    let answer = calls::compare(
+        one.descriptor,
+        &one.block,
+        other.descriptor,
+        &other.block,
+        &mut first_rows[..firsts],
+        &mut last_rows[..lasts],
+    );
+    let what = || format!("{:?} {} and {:?} {}", one.descriptor, start_of(&one.block), other.descriptor, start_of(&other.block));
+    assert!(answer.number == 0 || answer.ranges == 0, "{answer:?}: {}", what());
+    for (after, before) in [&first_rows, &last_rows].into_iter().zip(&before) {
+        assert!(after[answer.ranges..] == before[answer.ranges..], "{answer:?}, {firsts} and {lasts} slots: {}", what());
+    }
+    if answer.number != 0 {
+        return Err(answer.number);
+    }
+    Ok(first_rows.into_iter().zip(last_rows).take(answer.ranges).collect())
+}
+
+/// The same, held to the model.
+pub fn compare(one: &Lent, other: &Lent, firsts: usize, lasts: usize) -> Result<Vec<(usize, usize)>, u8> {
+    let (found, due) = (ranges(one, other, firsts, lasts), differences::compared(one, other, firsts, lasts));
+    assert!(
+        found == due,
+        "{found:?}, not {due:?}, by {firsts} and {lasts} slots: {:?} {} and {:?} {}",
+        one.descriptor,
+        start_of(&one.block),
+        other.descriptor,
+        start_of(&other.block)
+    );
+    due
 }

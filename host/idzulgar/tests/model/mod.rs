@@ -1,9 +1,11 @@
 //! A reading of documents 01 and 02 in plain Rust, for the tests: the block of a list of rows, opening's number, the rows of a sound
-//! block, a read's answer on any record and any bytes, and sheet files. It is written from the documents' words, takes no care for speed, and
-//! shares no code with the library.
+//! block, a read's answer on any record and any bytes, sheet files, and the rows in which two blocks differ. It is written from the documents'
+//! words, takes no care for speed, and shares no code with the library.
 #![allow(dead_code)]
 
+pub mod differences;
 pub mod held;
+pub mod loose;
 pub mod reads;
 pub mod sheets;
 
@@ -108,6 +110,24 @@ fn nullable_of(kind: Kind, rows: &[Value]) -> Vec<u8> {
     block
 }
 
+/// The block of some runs, of which there is one at least: how many rows each has, and the block of their items.
+fn block_of_runs(counts: &[u64], inner: &[u8]) -> Vec<u8> {
+    let mut spelled = Vec::new();
+    for count in counts {
+        let mut rest = *count;
+        while rest >= 128 {
+            spelled.push((rest % 128 + 128) as u8);
+            rest /= 128;
+        }
+        spelled.push(rest as u8);
+    }
+    let mut block = (counts.len() as u32).to_le_bytes().to_vec();
+    block.extend((spelled.len() as u32).to_le_bytes());
+    block.extend(spelled);
+    block.extend(inner);
+    block
+}
+
 fn run_length_of(rows: &[Value], inner: impl Fn(&[Value]) -> Vec<u8>) -> Vec<u8> {
     if rows.is_empty() {
         return Vec::new();
@@ -119,21 +139,8 @@ fn run_length_of(rows: &[Value], inner: impl Fn(&[Value]) -> Vec<u8>) -> Vec<u8>
             _ => runs.push((row.clone(), 1)),
         }
     }
-    let mut counts = Vec::new();
-    for (_, count) in &runs {
-        let mut rest = *count;
-        while rest >= 128 {
-            counts.push((rest % 128 + 128) as u8);
-            rest /= 128;
-        }
-        counts.push(rest as u8);
-    }
-    let items: Vec<Value> = runs.into_iter().map(|run| run.0).collect();
-    let mut block = (items.len() as u32).to_le_bytes().to_vec();
-    block.extend((counts.len() as u32).to_le_bytes());
-    block.extend(counts);
-    block.extend(inner(&items));
-    block
+    let (items, counts): (Vec<Value>, Vec<u64>) = runs.into_iter().unzip();
+    block_of_runs(&counts, &inner(&items))
 }
 
 fn dictionary_of(kind: Kind, rows: &[Value]) -> Vec<u8> {
@@ -151,10 +158,15 @@ fn dictionary_of(kind: Kind, rows: &[Value]) -> Vec<u8> {
         keys.push(Value::Int(-2147483647 + place as i64));
     }
     let keys = run_length_of(&keys, |items| plain_of(Kind::I32, items));
+    block_of_keys(&keys, entries.len(), &plain_of(kind, &entries))
+}
+
+/// The dictionary block of a key block, and of the entries' number and block.
+fn block_of_keys(keys: &[u8], entries: usize, inner: &[u8]) -> Vec<u8> {
     let mut block = (keys.len() as u64).to_be_bytes().to_vec();
-    block.extend((entries.len() as u32).to_be_bytes());
+    block.extend((entries as u32).to_be_bytes());
     block.extend(keys);
-    block.extend(plain_of(kind, &entries));
+    block.extend(inner);
     block
 }
 

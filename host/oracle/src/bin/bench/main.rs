@@ -1,7 +1,9 @@
 //! Reads and builds the same blocks by the port and by the original, in one run, and prints tables for docs/BENCHMARKS.md.
 //!
-//!     bench [reading|building|runs|texts|sheets]                  times: nanoseconds a row, best of several rounds, and ratios
-//!     bench instructions [reading|building|runs|texts|sheets]     instructions a row by the script `count`, whatever else the machine does
+//!     bench [PART]                  times: nanoseconds a row, best of several rounds, and ratios
+//!     bench instructions [PART]     instructions a row by the script `count`, whatever else the machine does
+//!
+//! A part is reading, building, runs, texts, sheets or compare; without one, all are run.
 use std::hint::black_box;
 use std::process::Command;
 use std::time::Instant;
@@ -10,6 +12,7 @@ use idzulgar::Value;
 
 mod building;
 mod by_hand;
+mod compare;
 mod reading;
 mod runs;
 mod sheets;
@@ -80,29 +83,34 @@ fn main() {
             runs::times();
             texts::times();
             sheets::times();
+            compare::times();
         }
         ["reading"] => reading::times(),
         ["building"] => building::times(),
         ["runs"] => runs::times(),
         ["texts"] => texts::times(),
         ["sheets"] => sheets::times(),
+        ["compare"] => compare::times(),
         ["instructions"] => {
             reading::instructions();
             building::instructions();
             runs::instructions();
             texts::instructions();
             sheets::instructions();
+            compare::instructions();
         }
         ["instructions", "reading"] => reading::instructions(),
         ["instructions", "building"] => building::instructions(),
         ["instructions", "runs"] => runs::instructions(),
         ["instructions", "texts"] => texts::instructions(),
         ["instructions", "sheets"] => sheets::instructions(),
+        ["instructions", "compare"] => compare::instructions(),
         ["count", "reading", ref words @ ..] => reading::count(words),
         ["count", "building", ref words @ ..] => building::count(words),
         ["count", "runs", ref words @ ..] => runs::count(words),
         ["count", "texts", ref words @ ..] => texts::count(words),
         ["count", "sheets", ref words @ ..] => sheets::count(words),
-        _ => panic!("bench [instructions] [reading|building|runs|texts|sheets]"),
+        ["count", "compare", ref words @ ..] => compare::count(words),
+        _ => panic!("bench [instructions] [reading|building|runs|texts|sheets|compare]"),
     }
 }

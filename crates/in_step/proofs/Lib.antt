@@ -1,0 +1,4 @@
+pub mod Lists
+pub mod Sides
+pub mod Walking
+pub mod ByItems
