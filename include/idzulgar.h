@@ -24,8 +24,8 @@ extern "C" {
 #endif
 
 /* Which records and calls these are. In 1 the answers of idz_remaining, idz_finish, idz_estimate and idz_should_finish had no record. In
- * 2 idz_reader had no count of nulls. */
-#define IDZ_VERSION 3
+ * 2 idz_reader had no count of nulls. In 3 idz_builder had no key target, and that of every dictionary was 0. */
+#define IDZ_VERSION 4
 
 /* What comes back. */
 enum {
@@ -106,7 +106,9 @@ typedef struct {
  * each call with what they held: items (fixed and char items at their width, blob data), the blob items' ends, flags (a bit an
  * item), the runs' counts, the key runs' keys, the char items' lengths. An area without a need may have length 0. */
 typedef struct {
-    size_t kind, encoding, width, target, rows, runs, entries, bytes, last, null, counts;
+    size_t kind, encoding, width, target;
+    size_t key_target; /* any number is one; idz_should_finish alone looks at it, and for a dictionary alone */
+    size_t rows, runs, entries, bytes, last, null, counts;
 } idz_builder;
 
 typedef struct {
@@ -182,8 +184,19 @@ idz_given idz_read(idz_reader reader, const uint8_t *block, size_t block_len, si
 /* The rows that are left, from the record alone. Refuses 9. */
 idz_left idz_remaining(idz_reader reader);
 
-/* A builder of a column with nothing appended: 0 or 1. The target is what idz_should_finish holds blocks to. */
+/* A builder of a column with nothing appended: 0 or 1. The target is what idz_should_finish holds blocks to. It holds a dictionary's keys to
+ * the key target, which is the target here.
+ *
+ * In version 3 the key target was 0, so a dictionary was to be finished after each row. This default changed: a caller that relied on the cut
+ * calls idz_create_with_key_target with 0. And idz_builder is longer by a field: object code made with the header of version 3 still links
+ * and doesn't fit, so compile it anew. */
 idz_creation idz_create(size_t kind, size_t encoding, size_t width, size_t target);
+
+/* The same with a key target of its own, which may be any number. With 0 a dictionary is to be finished as soon as it has a row; the other
+ * encodings keep the number and don't look at it.
+ *
+ *     idz_creation creation = idz_create_with_key_target(IDZ_I32, IDZ_DICTIONARY, 0, 4096, 0); */
+idz_creation idz_create_with_key_target(size_t kind, size_t encoding, size_t width, size_t target, size_t key_target);
 
 /* Appends one row: `present` is 0 for a null; a fixed kind takes `value`, char and blob take `item`. Needs, this row counted in: the item
  * bytes stored; a slot of `ends` a blob item; a byte of `flags` per eight items (encodings 1 and 3); a slot of `counts` a run; a
@@ -201,7 +214,9 @@ idz_finished idz_finish(idz_builder builder, const uint8_t *items, size_t items_
 /* The estimated size of the block, from the record alone. Refuses 9. */
 idz_estimated idz_estimate(idz_builder builder);
 
-/* Whether to finish before a next row, from the record alone: whether that row is present, and the length of its bytes. Refuses 9. */
+/* Whether to finish before a next row, from the record alone: whether that row is present, and the length of its bytes. A dictionary is to be
+ * finished by its entries and the target, or by its keys: if it has a key run, and 4 bytes a key run and 4 more are above the key target,
+ * whatever the next row is. Refuses 9. */
 idz_asked idz_should_finish(idz_builder builder, uint8_t present, size_t len);
 
 /* A sheet file is up to 64 blocks in one file of at most 16,777,216 bytes: a byte, the number of columns; 16 bytes a column, which is

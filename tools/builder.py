@@ -1,4 +1,5 @@
-"""A second reading of document 01, "Building" and "Sizes", in Python, made apart from the definitions under crates/builder/specs.
+"""A second reading of document 01, "Building" and "Sizes", with the key target of document 02 (ii), in Python, made apart from the
+definitions under crates/builder/specs.
 
 It says of every call what it answers and what the lent areas then hold, for any record and any memory. A record is a dictionary of
 FIELDS; the areas are a dictionary of AREAS, of each of which the first cells are lent, as many as `lent` says. tools/building.py
@@ -8,7 +9,7 @@ from model import BY_ENDS, CHAR, FIXED, MOST_RUN, NULL_KEY, OF_TEXT, spell
 import model
 
 MOST_ROWS, MOST_ITEMS, MOST_ENTRIES, MOST_BYTES = 2**48 - 1, 2**20, 2**16, 2**24
-FIELDS = ("kind", "encoding", "width", "target", "rows", "runs", "entries", "bytes", "last", "null", "counts")
+FIELDS = ("kind", "encoding", "width", "target", "keytarget", "rows", "runs", "entries", "bytes", "last", "null", "counts")
 AREAS = ("items", "ends", "flags", "counts", "keys", "lens")
 
 
@@ -22,11 +23,12 @@ def known(r):
     return model.known(r["kind"], r["encoding"], r["width"])
 
 
-def create(kind, encoding, width, target):
-    """A record, or None where the column is refused."""
+def create(kind, encoding, width, target, keytarget=None):
+    """A record, or None where the column is refused. The target is that of the keys too, unless theirs is named."""
     if not model.known(kind, encoding, width):
         return None
-    return dict.fromkeys(FIELDS, 0) | {"kind": kind, "encoding": encoding, "width": width, "target": target}
+    given = {"kind": kind, "encoding": encoding, "width": width, "target": target}
+    return dict.fromkeys(FIELDS, 0) | given | {"keytarget": target if keytarget is None else keytarget}
 
 
 def width_of(r):
@@ -246,10 +248,15 @@ def with_next(r, present, size):
     return plain_bytes(r) + more + (1 if r["encoding"] in (1, 3) else 0)
 
 
+def with_next_key(r):
+    """What should_finish holds against the key target: the next row isn't looked at."""
+    return 4 * r["runs"] + 4
+
+
 def should_finish(r, present, size):
     if record_wrong(r):
         return 9, 0
     full = r["bytes"] != 0 and with_next(r, present, size) > r["target"]
     if r["encoding"] == 4:
-        full = full or 4 * r["runs"] != 0 and 4 * r["runs"] + 4 > 0
+        full = full or 4 * r["runs"] != 0 and with_next_key(r) > r["keytarget"]
     return 0, int(full)

@@ -71,9 +71,13 @@ class Script:
 
     # ---- the calls
 
-    def create(self, kind, encoding, width=0, target=0, expect=0):
-        self.command(0, kind, encoding, width, target)
-        made = builder.create(kind, encoding, width, target)
+    def create(self, kind, encoding, width=0, target=0, key=None, expect=0):
+        """With the target for the keys too, or another that is named."""
+        if key is None:
+            self.command(0, kind, encoding, width, target)
+        else:
+            self.command(12, kind, encoding, width, target, key)
+        made = builder.create(kind, encoding, width, target, key)
         self.r = made or NO_BUILDER
         self.rows = [] if made else None
         if made:
@@ -184,6 +188,10 @@ class Script:
         assert full in (None, yes), (full, yes, self.r)
         self.answer("should", refusal, yes)
         self.count("should", refusal, expect)
+        return yes
+
+    def should_before(self, row, expect=0, full=None):
+        return self.should(row is not None, len(row) if isinstance(row, bytes) else 0, expect, full)
 
     # ---- the state
 
@@ -290,9 +298,9 @@ class Script:
     def roomy(self, **more):
         self.lend(**({"items": 40, "ends": 8, "flags": 2, "counts": 8, "keys": 8, "lens": 8} | more))
 
-    def build(self, kind, encoding, width, rows, target=0):
+    def build(self, kind, encoding, width, rows, target=0, key=None):
         """A list of rows in areas that just hold it."""
-        self.create(kind, encoding, width, target)
+        self.create(kind, encoding, width, target, key)
         for row in rows:
             self.lend_next(row)
             self.append(row)
@@ -301,7 +309,7 @@ class Script:
         """Each call on a state that can be anything, which then is as it was."""
         kept = self.keep()
         self.estimate(None)
-        self.should(row is not None, len(row) if isinstance(row, bytes) else 0, None)
+        self.should_before(row, None)
         self.finish(min(self.block_size(), 120), None)
         self.append(row, expect=None)
         self.back(kept)
@@ -845,6 +853,9 @@ def large_records(s):
         s.set(entries=0, bytes=0)
         s.set(counts=MOST_BYTES - 20 - 4 * MOST_ITEMS)
         sizes(0, runs=MOST_ITEMS)
+        for key, full in ((4 * MOST_ITEMS + 3, 1), (4 * MOST_ITEMS + 4, 0)):
+            s.set(keytarget=key)
+            s.should(True, 0, full=full)
         sizes(9, runs=MOST_ITEMS + 1)
         sizes(9, runs=MOST)
         sizes(0, runs=MOST_ITEMS, counts=MOST_BYTES - 20 - 4 * MOST_ITEMS)
@@ -855,27 +866,33 @@ def large_records(s):
 
 
 def targets(s):
-    """should_finish about the target, for rows of any length; items of no bytes say no, a dictionary with a row yes."""
+    """should_finish about the target, for rows of any length; items of no bytes say no, a dictionary with a row and key target 0 yes."""
     for kind, encoding, width in pairs():
         rows = some_rows(kind, encoding, width)[:5]
-        s.build(kind, encoding, width, rows)
+        s.build(kind, encoding, width, rows, 0, MOST)
         s.should(True, MOST)
         for present, size in ((True, 0), (True, 5), (False, 5)):
             last = builder.with_next(s.r, present, size)
             for target in (last, last - 1, last + 1):
                 s.set(target=target)
-                s.should(present, size, full=1 if encoding == 4 else int(target < last))
+                s.should(present, size, full=int(target < last))
             s.estimate()
+        if encoding == 4:
+            both_rules(s, last)
         if encoding == 4 and kind in (I16, BLOB, CHAR):
             # entries without a run: their rule alone
-            s.set(runs=0)
+            s.set(runs=0, keytarget=0)
             for target in (last, last - 1, last + 1):
                 s.set(target=target)
                 s.should(False, 5, full=int(target < last))
             s.set(entries=0, bytes=0)
             s.should(True, 5, full=0)
+            # a run without entries: that of the keys alone
             s.set(runs=1)
-            s.should(True, 5, full=1)
+            for key in (0, 7, 8, 9):
+                s.set(keytarget=key)
+                s.should(True, 5, full=int(key < 8))
+            s.set(keytarget=MOST)
         for target, size in ((MOST, 2**64 - 5), (MOST, MOST), (2**63, 2**63), (2**63, 2**63 - 40), (MOST - 1, MOST), (0, 0)):
             s.set(target=target)
             s.should(True, size)
@@ -902,6 +919,99 @@ def targets(s):
             s.should(True, size, full=1)
 
 
+def both_rules(s, last):
+    """A dictionary is full by the entries or by the keys; with a null of five bytes the entries come to so many."""
+    runs = builder.with_next_key(s.r)
+    for target, key in itertools.product((last, last - 1), (runs, runs - 1)):
+        s.set(target=target, keytarget=key)
+        s.should(False, 5, full=int(target < last or key < runs))
+    s.set(keytarget=MOST)
+
+
+def asked_before(s, rows, most):
+    """Rows that are appended, with a question before each and behind the last: it says yes with more than so many in."""
+    for done, row in enumerate(rows):
+        s.should_before(row, full=int(done > most))
+        s.append(row)
+    for present, size in ((True, 0), (True, MOST), (False, 5)):
+        s.should(present, size, full=int(len(rows) > most))
+
+
+def key_targets(s):
+    """The key target of a dictionary: four bytes a run and four more are held against it, whatever the next row."""
+    never = 99
+    s.lend(items=32, ends=20, flags=0, counts=20, keys=20, lens=20)
+    for target, key, most in ((64, None, 15), (64, 64, 15), (64, 67, 15), (64, 68, 16), (64, 63, 14), (64, 0, 0), (64, 7, 0), (64, 8, 1),
+                              (0, None, 0), (11, None, 1), (11, 64, 1), (12, 64, 15), (64, MOST, never), (MOST, None, never)):
+        # with two entries the target itself is passed where it is below 12, with one where it is below 8
+        s.create(I32, 4, 0, target, key)
+        asked_before(s, [1 + i % 2 for i in range(18)], most)
+    # equal rows are one run, a null is one as others are; a run that is full is followed by another
+    for key, most in ((None, never), (8, never), (7, 0), (0, 0)):
+        s.create(I32, 4, 0, 64, key)
+        asked_before(s, [7] * 18, most)
+        s.create(I32, 4, 0, 64, key)
+        asked_before(s, [None] * 5, most)
+    for key, most in ((None, 15), (11, 1), (12, 2)):
+        s.create(I32, 4, 0, 64, key)
+        asked_before(s, [(None, 3)[i % 2] for i in range(18)], most)
+    s.create(I32, 4, 0, 64, 8)
+    s.append(7)
+    s.set(last=MOST_RUN)
+    s.should(True, 0, full=0)
+    s.append(7)
+    s.should(True, 0, full=1)
+    # entries of no bytes: the keys' rule alone, however long the next row
+    for kind, (key, most) in itertools.product(BY_ENDS, ((0, 0), (12, 2), (MOST, never))):
+        s.create(kind, 4, 0, 0, key)
+        asked_before(s, [b"", None, b"", None], most)
+
+
+def kept_key_targets(s):
+    """Every encoding keeps its key target. should_finish of a dictionary alone looks at it, and any number will do."""
+    keys = (0, 1, 11, 12, 2**63, MOST)
+    for kind, encoding, width in pairs():
+        s.build(kind, encoding, width, some_rows(kind, encoding, width)[1:3], 40, keys[kind % 6])
+        assert s.r["keytarget"] == keys[kind % 6]
+        block, (_, size) = s.finish(), builder.estimate(s.r)
+        for key in keys:
+            s.set(keytarget=key)
+            s.should(True, 0, full=int(encoding == 4 and key < 12))
+            if key in (1, MOST):
+                s.estimate(size=size)
+                assert s.finish() == block
+        s.lend_next(None)
+        s.append(None)
+        assert s.r["keytarget"] == MOST
+
+
+def importer(s):
+    """Lists that are cut where should_finish says so: by key target 0 into blocks of one row each, by the target into longer ones."""
+    s.roomy(counts=16, keys=16)
+    for kind in KINDS:
+        width = 3 if kind == CHAR else 0
+        rows = [any_row(s, kind, width) for _ in range(8)]
+        for key in (0, None):
+            cut(s, kind, width, rows, key)
+    assert cut(s, I32, 0, [1 + i % 2 for i in range(40)], None) == [16, 16, 8]
+
+
+def cut(s, kind, width, rows, key):
+    """How many rows each block has."""
+    lengths = []
+    s.create(kind, 4, width, 64, key)
+    for row in rows:
+        if s.should_before(row):
+            lengths.append(len(s.rows))
+            s.finish()
+            s.create(kind, 4, width, 64, key)
+        s.append(row)
+    s.finish()
+    lengths.append(len(s.rows))
+    assert key is None or lengths == [1] * len(rows)
+    return lengths
+
+
 def creation(s):
     """Names, as they come."""
     for kind in (0, 7, CHAR, BLOB, STRING, F64, 12, 255, 256 + 2, 2**32 + 2, MOST):
@@ -909,12 +1019,18 @@ def creation(s):
             for width in (0, 1, 255, 256, 257, MOST):
                 known = encoding < 5 and (kind in (0, 7, BLOB, STRING, F64) and width == 0 or kind == CHAR and 1 <= width <= 255)
                 s.create(kind, encoding, width, MOST if known else 7, expect=0 if known else 1)
-    s.create(12, 0, expect=1)
-    s.roomy()
-    s.append(None, expect=9)
-    s.finish(9, expect=9)
-    s.estimate(9)
-    s.should(True, 1, 9)
+    for key in (None, 9):
+        s.create(12, 0, 0, 7, key, expect=1)
+        s.roomy()
+        s.append(None, expect=9)
+        s.finish(9, expect=9)
+        s.estimate(9)
+        s.should(True, 1, 9)
+    # any key target is taken, and none is looked at
+    for column, expect in (((I32, 0, 0), 0), ((CHAR, 1, 255), 0), ((I32, 4, 0), 0), ((I32, 5, 0), 1), ((12, 4, 0), 1), ((CHAR, 4, 0), 1),
+                           ((I16, 4, 1), 1)):
+        for key in (0, 1, 2**63, MOST):
+            s.create(*column, 7, key, expect=expect)
 
 
 def forged_values(field, r, encoding):
@@ -926,6 +1042,8 @@ def forged_values(field, r, encoding):
         return about | {1, 2, 3, 4, 5, 256}
     if field == "width":
         return about | {1, 2, 255, 256}
+    if field == "keytarget":
+        return {0, 1, v + 1, 2**63, MOST}
     if field == "rows":
         return about | {MOST_ITEMS, MOST_ITEMS + 1, MOST_ROWS, MOST_ROWS + 1}
     if field in ("runs", "entries"):
@@ -1203,7 +1321,7 @@ def by_chance(s):
     for turn in range(120):
         kind, encoding = KINDS[turn % len(KINDS)], turn // 2 % 5
         width = pick((1, 2, 3)) if kind == CHAR else 0
-        s.create(kind, encoding, width, pick((0, 1, 8, 16, 20, 24, MOST)))
+        s.create(kind, encoding, width, pick((0, 1, 8, 16, 20, 24, MOST)), pick((None, None, 0, 12, 16, MOST)))
         for _ in range(pick((3, 6, 10))):
             if chance() < .5:
                 lend_loose(s)
@@ -1254,7 +1372,8 @@ def forge(s):
 
 
 SECTIONS = (samples, counts, all_pairs, many_flags, borders, as_given, last_counts, most_rows, most_items, most_entries, most_bytes,
-            large_records, targets, creation, forged, damaged, order, texts, long_items, by_chance)
+            large_records, targets, key_targets, kept_key_targets, importer, creation, forged, damaged, order, texts, long_items,
+            by_chance)
 
 
 def main():

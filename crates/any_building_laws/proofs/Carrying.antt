@@ -115,18 +115,19 @@ carries-same k e rows c a r h = record {
 }
 
 -- ---- a builder that agrees with its areas: they stand as the rows left them, and are long enough for them
-pub record Agrees (k : Kind) (e : Encoding) (target : ℕ) (rows : List Row) (r : Builder) (a : Lent) : Type 0 where
-  pub stands : Stands k e target rows r a
+pub record Agrees (k : Kind) (e : Encoding) (target key : ℕ) (rows : List Row) (r : Builder) (a : Lent) : Type 0 where
+  pub stands : Stands k e target key rows r a
   pub enough : Enough k e rows a
 
-pub agrees-carried : (k : Kind) (e : Encoding) (target : ℕ) (rows : List Row) (r : Builder) (left lent : Lent)
-    → Agrees k e target rows r left → Carries k e (r .counted) left lent → Agrees k e target rows r lent
-agrees-carried k e target rows r left lent g p =
+pub agrees-carried : (k : Kind) (e : Encoding) (target key : ℕ) (rows : List Row) (r : Builder) (left lent : Lent)
+    → Agrees k e target key rows r left → Carries k e (r .counted) left lent → Agrees k e target key rows r lent
+agrees-carried k e target key rows r left lent g p =
     let s = g .stands in
     record {
       stands = record {
         column = s .column;
         aim = s .aim;
+        keyAim = s .keyAim;
         recorded = s .recorded;
         holds = holds-carried k e rows (r .counted) left lent (s .recorded) p (s .holds);
         within = s .within;
@@ -152,12 +153,12 @@ none-needed k e a = record {
   lens = rw (no-items e) (none-long k (length (a .ends)) (length (a .lens)) .1);
 }
 
-pub agrees-first : (kind encoding width target : ℕ) (k : Kind) (e : Encoding) → columnOf kind encoding width ≡ Of k e → (r : Builder)
-    → created kind encoding width target ≡ New r → (a : Lent) → Agrees k e target [] r a
+pub agrees-first : (kind encoding width target key : ℕ) (k : Kind) (e : Encoding) → columnOf kind encoding width ≡ Of k e → (r : Builder)
+    → created kind encoding width target key ≡ New r → (a : Lent) → Agrees k e target key [] r a
 unfolding created
-agrees-first kind encoding width target k e column r new a =
-    let first = created-told (columnOf kind encoding width) (empty kind encoding width target) r k e column new in
+agrees-first kind encoding width target key k e column r new a =
+    let first = created-told (columnOf kind encoding width) (empty kind encoding width target key) r k e column new in
     record {
-      stands = subst (λ (s : Builder). Stands k e target [] s a) first (stands-first k e kind encoding width target column a);
+      stands = subst (λ (s : Builder). Stands k e target key [] s a) first (stands-first k e kind encoding width target key column a);
       enough = none-needed k e a;
     }

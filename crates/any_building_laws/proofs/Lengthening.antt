@@ -57,26 +57,26 @@ longer-carries k e rows c a more r h =
     }
 
 -- ---- the areas of all calls
-module _ (k : Kind) (e : Encoding) (target : ℕ) where
-  pub one-carried : (rows : List Row) (r : Builder) (left lent : Lent) → Agrees k e target rows r left → SameOrLonger left lent → Carries k e (r .counted) left lent
+module _ (k : Kind) (e : Encoding) (target key : ℕ) where
+  pub one-carried : (rows : List Row) (r : Builder) (left lent : Lent) → Agrees k e target key rows r left → SameOrLonger left lent → Carries k e (r .counted) left lent
   one-carried rows r left lent g (inl p) = rw p (carries-same k e rows (r .counted) left (g .stands .recorded) (g .enough))
   one-carried rows r left lent g (inr p) = rw (p .1) (longer-carries k e rows (r .counted) left (p .0) (g .stands .recorded) (g .enough))
 
-  all-carried : (cs : List Call) (rows : List Row) (r : Builder) (left : Lent) → Agrees k e target rows r left → LengthenedOn r left cs → CarriedOn k e r left cs
+  all-carried : (cs : List Call) (rows : List Row) (r : Builder) (left : Lent) → Agrees k e target key rows r left → LengthenedOn r left cs → CarriedOn k e r left cs
   all-carried [] rows r left g h = tt
   all-carried (c ∷ cs) rows r left g h =
       let p = one-carried rows r left (c .areas) g (h .0) in
-      let t = one-call k e target rows r (c .areas) (agrees-carried k e target rows r left (c .areas) g p) (c .ask) in
+      let t = one-call k e target key rows r (c .areas) (agrees-carried k e target key rows r left (c .areas) g p) (c .ask) in
       (p, all-carried cs (acceptedBy k e rows (c .areas) (c .ask)) (after r (c .areas) (c .ask) .builder) (after r (c .areas) (c .ask) .areas) (t .next) (h .1))
 
-module _ (kind encoding width target : ℕ) (k : Kind) (e : Encoding) (column : columnOf kind encoding width ≡ Of k e)
-    (r : Builder) (new : created kind encoding width target ≡ New r) where
+module _ (kind encoding width target key : ℕ) (k : Kind) (e : Encoding) (column : columnOf kind encoding width ≡ Of k e)
+    (r : Builder) (new : created kind encoding width target key ≡ New r) where
   pub lengthened-is-carried : (cs : List Call) → Lengthened r cs → Carried k e r cs
   lengthened-is-carried [] h = tt
   lengthened-is-carried (c ∷ cs) h =
-      let t = one-call k e target [] r (c .areas) (agrees-first kind encoding width target k e column r new (c .areas)) (c .ask) in
-      all-carried k e target cs (acceptedBy k e [] (c .areas) (c .ask)) (after r (c .areas) (c .ask) .builder) (after r (c .areas) (c .ask) .areas) (t .next) h
+      let t = one-call k e target key [] r (c .areas) (agrees-first kind encoding width target key k e column r new (c .areas)) (c .ask) in
+      all-carried k e target key cs (acceptedBy k e [] (c .areas) (c .ask)) (after r (c .areas) (c .ask) .builder) (after r (c .areas) (c .ask) .areas) (t .next) h
 
   -- Any calls on memory that stays, or is lengthened at its end before a call, are answered as the rows accepted so far tell.
-  pub calls-on-lengthened-memory : (cs : List Call) → Lengthened r cs → answers r cs ≡ expected k e target [] cs
-  calls-on-lengthened-memory cs h = any-building-calls kind encoding width target k e column r new cs (lengthened-is-carried cs h)
+  pub calls-on-lengthened-memory : (cs : List Call) → Lengthened r cs → answers r cs ≡ expected k e target key [] cs
+  calls-on-lengthened-memory cs h = any-building-calls kind encoding width target key k e column r new cs (lengthened-is-carried cs h)

@@ -57,12 +57,12 @@ block-due r block out = go (ltb (length out) (length block)) refl
     go true h = rw h
     go false h = rw h
 
-module _ (k : Kind) (e : Encoding) (target : ℕ) (rows : List Row) (r : Builder) (a : Lent) where
+module _ (k : Kind) (e : Encoding) (target key : ℕ) (rows : List Row) (r : Builder) (a : Lent) where
   pub record Told (q : Ask) : Type 0 where
-    pub answer : answerTo r a q ≡ due k e target rows a q
-    pub next : Agrees k e target (acceptedBy k e rows a q) (after r a q .builder) (after r a q .areas)
+    pub answer : answerTo r a q ≡ due k e target key rows a q
+    pub next : Agrees k e target key (acceptedBy k e rows a q) (after r a q .builder) (after r a q .areas)
 
-  module _ (g : Agrees k e target rows r a) where
+  module _ (g : Agrees k e target key rows r a) where
     -- ---- an append
     module _ (v : Given) where
       abbrev x : Row
@@ -85,10 +85,10 @@ module _ (k : Kind) (e : Encoding) (target : ℕ) (rows : List Row) (r : Builder
           (cond (below (needOf k e more) (roomOf a)) (appendOf ROOM r a)
           (appendOf 0 (counting r counted) written)))
       append-any =
-          given-told k e target rows r a (g .stands) v
-          ∙ ap (appendWith r) (append-by-needs k e target rows r a (g .stands) x (g .enough))
+          given-told k e target key rows r a (g .stands) v
+          ∙ ap (appendWith r) (append-by-needs k e target key rows r a (g .stands) x (g .enough))
           ∙ with-told (fits k x) (withinLimits k e more) (tooShort k e counted (roomOf a)) r a counted written
-          ∙ rw (short-exactly k e more counted a (next-recorded k e target rows r a (g .stands) x))
+          ∙ rw (short-exactly k e more counted a (next-recorded k e target key rows r a (g .stands) x))
 
       append-number : appended r a (v .present) (v .value) (v .text) .answer .number ≡ appendNumber k e rows x (roomOf a)
       unfolding appendNumber
@@ -102,13 +102,13 @@ module _ (k : Kind) (e : Encoding) (target : ℕ) (rows : List Row) (r : Builder
       unfolding answerTo due after acceptedBy
       refused n z p = record { answer = ap appends append-number; next = rw (p, number-of p, z) g }
 
-      taken : (s : Builder) (b : Lent) → appended r a (v .present) (v .value) (v .text) ≡ appendOf 0 s b → Agrees k e target more s b → Told (append v)
+      taken : (s : Builder) (b : Lent) → appended r a (v .present) (v .value) (v .text) ≡ appendOf 0 s b → Agrees k e target key more s b → Told (append v)
       unfolding answerTo due after acceptedBy
       taken s b p h = record { answer = ap appends append-number; next = rw (p, number-of p) h }
 
-      agrees-next : Enough k e more a → fits k x ≡ true → withinLimits k e more ≡ true → Agrees k e target more (counting r counted) written
+      agrees-next : Enough k e more a → fits k x ≡ true → withinLimits k e more ≡ true → Agrees k e target key more (counting r counted) written
       agrees-next room f w = record {
-        stands = stands-next k e target rows r a (g .stands) x room f w;
+        stands = stands-next k e target key rows r a (g .stands) x room f w;
         enough = kept-enough k e more a written (kept-next k e rows x (r .counted) a (g .stands .recorded) room) room;
       }
 
@@ -126,8 +126,8 @@ module _ (k : Kind) (e : Encoding) (target : ℕ) (rows : List Row) (r : Builder
     unfolding answerTo due acceptedBy
     one-call (append v) = append-answered v
     one-call (finish out) = record {
-      answer = ap finishAnswer (finish-told k e target rows r a (g .stands) (g .enough) out ∙ finish-due r (blockOf k e rows) out) ∙ block-due r (blockOf k e rows) out;
+      answer = ap finishAnswer (finish-told k e target key rows r a (g .stands) (g .enough) out ∙ finish-due r (blockOf k e rows) out) ∙ block-due r (blockOf k e rows) out;
       next = rw (finish-stays r a out) g;
     }
-    one-call estimate = record { answer = rw (estimate-told k e target rows r a (g .stands)); next = rw (estimate-stays r a) g }
-    one-call (shouldFinishBefore v) = record { answer = rw (asked-told k e target rows r a (g .stands) v); next = rw (asked-stays r a v) g }
+    one-call estimate = record { answer = rw (estimate-told k e target key rows r a (g .stands)); next = rw (estimate-stays r a) g }
+    one-call (shouldFinishBefore v) = record { answer = rw (asked-told k e target key rows r a (g .stands) v); next = rw (asked-stays r a v) g }

@@ -56,33 +56,33 @@ module _ (k : Kind) (e : Encoding) (rows : List Row) (x : Row) where
 number-of : (m n : ℕ) → appends m ≡ appends n → m ≡ n
 number-of m n p = cc
 
-module _ (k : Kind) (e : Encoding) (target : ℕ) (rows : List Row) (r : Builder) (v : Given) where
-  number-told : (a : Lent) → Agrees k e target rows r a → answerTo r a (append v) ≡ appends (appendNumber k e rows (rowIn k v) (roomOf a))
+module _ (k : Kind) (e : Encoding) (target key : ℕ) (rows : List Row) (r : Builder) (v : Given) where
+  number-told : (a : Lent) → Agrees k e target key rows r a → answerTo r a (append v) ≡ appends (appendNumber k e rows (rowIn k v) (roomOf a))
   unfolding due
-  number-told a g = one-call k e target rows r a g (append v) .answer
+  number-told a g = one-call k e target key rows r a g (append v) .answer
 
-  twice-told : (a more : Lent) → Agrees k e target rows r a → answerTo r a (append v) ≡ appends ROOM
+  twice-told : (a more : Lent) → Agrees k e target key rows r a → answerTo r a (append v) ≡ appends ROOM
       → below (needOf k e (rows ++ (rowIn k v ∷ []))) (roomOf (longer a more)) ≡ false → answers r (triedTwice v a more) ≡ appends ROOM ∷ appends 0 ∷ []
   unfolding answers numberIn
   twice-told a more g p q =
       let s : appendNumber k e rows (rowIn k v) (roomOf a) ≡ ROOM = number-of _ _ (sym (number-told a g) ∙ p) in
       let kept : after r a (append v) ≡ record { builder = r; areas = a } = refused-call-changes-nothing r a (append v) (rw p (λ z. omega arith)) in
-      let h = agrees-carried k e target rows r a (longer a more) g (longer-carries k e rows (r .counted) a more (g .stands .recorded) (g .enough)) in
+      let h = agrees-carried k e target key rows r a (longer a more) g (longer-carries k e rows (r .counted) a more (g .stands .recorded) (g .enough)) in
       rw (p, kept, number-told (longer a more) h, short-then-done k e rows (rowIn k v) (roomOf a) (roomOf (longer a more)) s q)
 
 -- ---- from the creation on
-module _ (kind encoding width target : ℕ) (k : Kind) (e : Encoding) (column : columnOf kind encoding width ≡ Of k e)
-    (r : Builder) (new : created kind encoding width target ≡ New r) where
+module _ (kind encoding width target key : ℕ) (k : Kind) (e : Encoding) (column : columnOf kind encoding width ≡ Of k e)
+    (r : Builder) (new : created kind encoding width target key ≡ New r) where
   module _ (cs : List Call) (carried : Carried k e r cs) (a : Lent) (v : Given) (more : Lent) where
-    there : Agrees k e target (acceptedIn k e [] cs) (afterAll r a cs .builder) (afterAll r a cs .areas)
-    there = agrees-after-any-calls kind encoding width target k e column r new cs carried a
+    there : Agrees k e target key (acceptedIn k e [] cs) (afterAll r a cs .builder) (afterAll r a cs .areas)
+    there = agrees-after-any-calls kind encoding width target key k e column r new cs carried a
 
     -- After any calls, an append that is refused as 4 is done when it is tried again on the areas lengthened, if they are long enough then.
     pub tried-again :
         answerTo (afterAll r a cs .builder) (afterAll r a cs .areas) (append v) ≡ appends ROOM
         → below (needOf k e (acceptedIn k e [] cs ++ (rowIn k v ∷ []))) (roomOf (longer (afterAll r a cs .areas) more)) ≡ false
         → answers (afterAll r a cs .builder) (triedTwice v (afterAll r a cs .areas) more) ≡ appends ROOM ∷ appends 0 ∷ []
-    tried-again = twice-told k e target (acceptedIn k e [] cs) (afterAll r a cs .builder) v (afterAll r a cs .areas) more there
+    tried-again = twice-told k e target key (acceptedIn k e [] cs) (afterAll r a cs .builder) v (afterAll r a cs .areas) more there
 
     -- So a row that fits and stays within the limits is appended at once, or the second time.
     pub done-at-last : fits k (rowIn k v) ≡ true → withinLimits k e (acceptedIn k e [] cs ++ (rowIn k v ∷ [])) ≡ true
@@ -90,7 +90,7 @@ module _ (kind encoding width target : ℕ) (k : Kind) (e : Encoding) (column : 
         → (answerTo (afterAll r a cs .builder) (afterAll r a cs .areas) (append v) ≡ appends 0)
         ⊎ (answers (afterAll r a cs .builder) (triedTwice v (afterAll r a cs .areas) more) ≡ appends ROOM ∷ appends 0 ∷ [])
     done-at-last f w room =
-        let told = number-told k e target (acceptedIn k e [] cs) (afterAll r a cs .builder) v (afterAll r a cs .areas) there in
+        let told = number-told k e target key (acceptedIn k e [] cs) (afterAll r a cs .builder) v (afterAll r a cs .areas) there in
         ⊎-elim (λ z. inl (told ∙ ap appends z)) (λ z. inr (tried-again (told ∙ ap appends z) room))
         (done-or-short k e (acceptedIn k e [] cs) (rowIn k v) f w (roomOf (afterAll r a cs .areas)))
 

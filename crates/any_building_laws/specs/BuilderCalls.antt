@@ -148,11 +148,11 @@ blockDue block out =
     cond (ltb (length out) (length block)) (finishes ROOM 0 out) (finishes 0 (length block) (block ++ drop (length block) out))
 
 -- of the rows accepted so far; finish gives their block
-unfoldable pub due : Kind → Encoding → ℕ → List Row → Lent → Ask → Answer
-due k e target rows a (append g) = appends (appendNumber k e rows (rowIn k g) (roomOf a))
-due k e target rows a (finish out) = blockDue (blockOf k e rows) out
-due k e target rows a estimate = estimates 0 (estimateOf k e rows)
-due k e target rows a (shouldFinishBefore g) = asks 0 (shouldFinish k e target rows (rowIn k g))
+unfoldable pub due : Kind → Encoding → ℕ → ℕ → List Row → Lent → Ask → Answer
+due k e target key rows a (append g) = appends (appendNumber k e rows (rowIn k g) (roomOf a))
+due k e target key rows a (finish out) = blockDue (blockOf k e rows) out
+due k e target key rows a estimate = estimates 0 (estimateOf k e rows)
+due k e target key rows a (shouldFinishBefore g) = asks 0 (shouldFinish k e target key rows (rowIn k g))
 
 -- the rows accepted after a call: an append that is 0 adds its row, and nothing else changes them
 unfoldable pub acceptedBy : Kind → Encoding → List Row → Lent → Ask → List Row
@@ -161,9 +161,9 @@ acceptedBy k e rows a (finish out) = rows
 acceptedBy k e rows a estimate = rows
 acceptedBy k e rows a (shouldFinishBefore g) = rows
 
-unfoldable pub expected : Kind → Encoding → ℕ → List Row → List Call → List Answer
-expected k e target rows [] = []
-expected k e target rows (c ∷ cs) = due k e target rows (c .areas) (c .ask) ∷ expected k e target (acceptedBy k e rows (c .areas) (c .ask)) cs
+unfoldable pub expected : Kind → Encoding → ℕ → ℕ → List Row → List Call → List Answer
+expected k e target key rows [] = []
+expected k e target key rows (c ∷ cs) = due k e target key rows (c .areas) (c .ask) ∷ expected k e target key (acceptedBy k e rows (c .areas) (c .ask)) cs
 
 -- ---- after all the calls: the rows accepted, the builder handed back and the areas left
 unfoldable pub acceptedIn : Kind → Encoding → List Row → List Call → List Row

@@ -96,13 +96,46 @@ fn created(answer: Created) -> Builder {
     }
 }
 
-fn create(s: &[u8], state: State) -> State {
-    let kind = number(s, state.at);
+// What a creation is given: the numbers of a column, the target, and the place after them.
+struct Wanted {
+    kind: usize,
+    encoding: usize,
+    width: usize,
+    target: usize,
+    next: usize,
+}
+
+fn wanted_at(s: &[u8], at: usize) -> Wanted {
+    let kind = number(s, at);
     let encoding = number(s, kind.next);
     let width = number(s, encoding.next);
     let target = number(s, width.next);
-    let answer = builder::create(kind.value, encoding.value, width.value, target.value);
-    after(state, target.next, created(answer))
+    Wanted {
+        kind: kind.value,
+        encoding: encoding.value,
+        width: width.value,
+        target: target.value,
+        next: target.next,
+    }
+}
+
+fn create(s: &[u8], state: State) -> State {
+    let wanted = wanted_at(s, state.at);
+    let answer = builder::create(wanted.kind, wanted.encoding, wanted.width, wanted.target);
+    after(state, wanted.next, created(answer))
+}
+
+fn create_with_key_target(s: &[u8], state: State) -> State {
+    let wanted = wanted_at(s, state.at);
+    let key = number(s, wanted.next);
+    let answer = builder::create_with_key_target(
+        wanted.kind,
+        wanted.encoding,
+        wanted.width,
+        wanted.target,
+        key.value,
+    );
+    after(state, key.next, created(answer))
 }
 
 fn estimate(state: State) -> State {
@@ -142,6 +175,7 @@ pub fn begin(s: &[u8], from: State, command: u8) -> State {
         6 => set(s, state),
         8 => lend(s, state),
         10 => show_all(state),
+        12 => create_with_key_target(s, state),
         _ => view(s, state),
     }
 }

@@ -29,12 +29,12 @@ use Rattle.builder.specs.Building.{empty, createdIn, created, counting, 
 use Rattle.builder.specs.Finishing.{estimatedAs, estimatedIn, estimated, askedAs, askedIn, asked}
 
 -- ---- creation
-module _ (kind encoding width target : ℕ) {c : Column} (p : c ≡ columnOf kind encoding width) where
-  pub refused : c ≡ Unknown → Refused COLUMN ≡ created kind encoding width target
+module _ (kind encoding width target key : ℕ) {c : Column} (p : c ≡ columnOf kind encoding width) where
+  pub refused : c ≡ Unknown → Refused COLUMN ≡ created kind encoding width target key
   unfolding created createdIn
   refused q = rw (← p, q)
 
-  pub new : {k : Kind} {e : Encoding} → c ≡ Of k e → {r : Builder} → r ≡ empty kind encoding width target → New r ≡ created kind encoding width target
+  pub new : {k : Kind} {e : Encoding} → c ≡ Of k e → {r : Builder} → r ≡ empty kind encoding width target key → New r ≡ created kind encoding width target key
   unfolding created createdIn
   new q h = rw (h, ← p, q)
 
@@ -100,6 +100,6 @@ module _ (r : Builder) {c : Column} (p : c ≡ columnOf (r .kind) (r .encoding) 
     asked-wrong present len t = rw (← p, q, ← o, t)
 
     pub asked-right :
-        (present : Bool) (len : ℕ) → x ≡ false → {t : Bool} → t ≡ fullBy k e (r .counted) (r .target) present len → askedAs 0 t r ≡ asked r present len
+        (present : Bool) (len : ℕ) → x ≡ false → {t : Bool} → t ≡ fullBy k e (r .counted) (r .target) (r .keytarget) present len → askedAs 0 t r ≡ asked r present len
     unfolding asked askedIn
     asked-right present len u h = rw (← p, q, ← o, u, h)

@@ -45,7 +45,7 @@ append s [] = s
 append s (row ∷ rows) = append (appended (s .answer .builder) (s .areas) (isPresent row) (intIn row) (bytesIn row)) rows
 
 unfoldable build : Created → List Row → Append
-build (Refused e) rows = appendOf e (Building.empty 255 0 0 0) room
+build (Refused e) rows = appendOf e (Building.empty 255 0 0 0 0) room
 build (New r) rows = append (appendOf 0 r room) rows
 
 unfoldable finish : Append → Finish
@@ -54,10 +54,10 @@ finish s = finished (s .answer .builder) (s .areas) (replicate 60 9)
 -- the last append is done, and the finished block and the estimated size are these
 abbrev Builds : ℕ → ℕ → ℕ → List Row → List ℕ → ℕ → Type 0
 Builds kind encoding width rows block size =
-    (build (created kind encoding width 0) rows .answer .number ≡ 0)
-    × (finish (build (created kind encoding width 0) rows) .answer .number ≡ 0)
-    × (take (finish (build (created kind encoding width 0) rows) .answer .len) (finish (build (created kind encoding width 0) rows) .out) ≡ block)
-    × (estimated (build (created kind encoding width 0) rows .answer .builder) .size ≡ size)
+    (build (created kind encoding width 0 0) rows .answer .number ≡ 0)
+    × (finish (build (created kind encoding width 0 0) rows) .answer .number ≡ 0)
+    × (take (finish (build (created kind encoding width 0 0) rows) .answer .len) (finish (build (created kind encoding width 0 0) rows) .out) ≡ block)
+    × (estimated (build (created kind encoding width 0 0) rows .answer .builder) .size ≡ size)
 
 -- ---- the samples: kind, encoding, width and rows; the block and the estimated size
 abbrev SampleA : Type 0

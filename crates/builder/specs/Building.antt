@@ -16,19 +16,20 @@ use Rattle.builder.specs.declared.Created.{Created}
 use Rattle.builder.specs.declared.Created.the-variants.{New, Refused}
 use Rattle.builder.specs.declared.Appended.{Appended}
 
--- ---- creation: a record with nothing counted, or 1
+-- ---- creation, with a target and a target of the keys: a record with nothing counted, or 1
 abbrev pub noneCounted : Counted
 noneCounted = record { rows = 0; runs = 0; entries = 0; bytes = 0; last = 0; null = 0; counts = 0 }
 
-abbrev pub empty : ℕ → ℕ → ℕ → ℕ → Builder
-empty kind encoding width target = record { kind = kind; encoding = encoding; width = width; target = target; counted = noneCounted }
+abbrev pub empty : ℕ → ℕ → ℕ → ℕ → ℕ → Builder
+empty kind encoding width target key =
+    record { kind = kind; encoding = encoding; width = width; target = target; keytarget = key; counted = noneCounted }
 
 unfoldable pub createdIn : Column → Builder → Created
 createdIn Unknown r = Refused COLUMN
 createdIn (Of k e) r = New r
 
-unfoldable pub created : ℕ → ℕ → ℕ → ℕ → Created
-created kind encoding width target = createdIn (columnOf kind encoding width) (empty kind encoding width target)
+unfoldable pub created : ℕ → ℕ → ℕ → ℕ → ℕ → Created
+created kind encoding width target key = createdIn (columnOf kind encoding width) (empty kind encoding width target key)
 
 -- ---- append: 9 for the record, the areas and the fields, 2, 3, 4; a refusal gives back what it was given
 pub record Append : Type 0 where
@@ -40,7 +41,8 @@ appendOf e r a = record { answer = record { number = e; builder = r }; areas = a
 
 -- the record with other counted numbers
 abbrev pub counting : Builder → Counted → Builder
-counting r c = record { kind = r .kind; encoding = r .encoding; width = r .width; target = r .target; counted = c }
+counting r c =
+    record { kind = r .kind; encoding = r .encoding; width = r .width; target = r .target; keytarget = r .keytarget; counted = c }
 
 abbrev pub appendWith : Builder → Added → Append
 appendWith r x = appendOf (x .answer .number) (counting r (x .answer .counted)) (x .areas)

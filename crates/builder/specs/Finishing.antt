@@ -70,7 +70,7 @@ unfoldable pub askedIn : Column → Builder → Bool → ℕ → Asked
 askedIn Unknown r present len = askedAs DISAGREE false r
 askedIn (Of k e) r present len =
     cond (recordWrong k e (r .counted)) (askedAs DISAGREE false r)
-    (askedAs 0 (fullBy k e (r .counted) (r .target) present len) r)
+    (askedAs 0 (fullBy k e (r .counted) (r .target) (r .keytarget) present len) r)
 
 -- of the next row whether it is present, and the length of its bytes
 unfoldable pub asked : Builder → Bool → ℕ → Asked

@@ -15,6 +15,7 @@ pub struct Builder {
     pub encoding: usize,
     pub width: usize,
     pub target: usize,
+    pub keytarget: usize,
     pub counted: Counted,
 }
 
@@ -56,8 +57,14 @@ pub struct Asked {
 
 impl Builder {
     // The builder of these numbers, with nothing appended, whether they name a column or not.
-    pub fn new(kind: usize, encoding: usize, width: usize, target: usize) -> Builder
-        ensures { λ r. ⌜ r ≡ empty kind encoding width target ⌝ }
+    pub fn new(
+        kind: usize,
+        encoding: usize,
+        width: usize,
+        target: usize,
+        keytarget: usize,
+    ) -> Builder
+        ensures { λ r. ⌜ r ≡ empty kind encoding width target keytarget ⌝ }
     {
         let counted = Counted {
             rows: 0,
@@ -73,6 +80,7 @@ impl Builder {
             encoding,
             width,
             target,
+            keytarget,
             counted,
         }
     }
@@ -85,9 +93,22 @@ impl Builder {
     }
 }
 
-// A builder of a column, with nothing appended.
+// A builder of a column, with nothing appended. Its target is that of a dictionary's keys too.
 pub fn create(kind: usize, encoding: usize, width: usize, target: usize) -> Created
-    ensures { λ r. ⌜ r ≡ created kind encoding width target ⌝ }
+    ensures { λ r. ⌜ r ≡ created kind encoding width target target ⌝ }
+{
+    create_with_key_target(kind, encoding, width, target, target)
+}
+
+// The same with another target for a dictionary's keys: with 0 a block is to be finished after each row. Every encoding keeps it, the others never look at it.
+pub fn create_with_key_target(
+    kind: usize,
+    encoding: usize,
+    width: usize,
+    target: usize,
+    keytarget: usize,
+) -> Created
+    ensures { λ r. ⌜ r ≡ created kind encoding width target keytarget ⌝ }
 {
     let column = format::column_of(kind, encoding, width);
     let Column::Of {
@@ -97,5 +118,5 @@ pub fn create(kind: usize, encoding: usize, width: usize, target: usize) -> Crea
     else {
         return Created::Refused(limits::refusal::COLUMN);
     };
-    Created::New(Builder::new(kind, encoding, width, target))
+    Created::New(Builder::new(kind, encoding, width, target, keytarget))
 }

@@ -56,7 +56,7 @@ impl Builder {
         }
         Asked {
             number: 0,
-            full: sizes::is_full(c, self.target, kind, encoding, present, len),
+            full: sizes::is_full(c, self.target, self.keytarget, kind, encoding, present, len),
             builder: self,
         }
     }

@@ -26,6 +26,7 @@ use Rattle.format.specs.Sizes.{storedEntries}
 use Rattle.slots.specs.Slots.{endsWith, lensWith, flagsWith, countsWith}
 use Rattle.needs.specs.declared.Counted.{Counted}
 use Rattle.needs.specs.Needs.{coded, flagged, keyed, storedBy}
+use Rattle.needs.proofs.Encodings.{keyed-coded}
 use Rattle.append.specs.Appending.{Lent, laid}
 use Rattle.building_laws.specs.Built.{storedRows, storedRuns, endSlots, lenSlots, Enough}
 use Rattle.building_laws.proofs.Lists.{length-joined-snoc, ends-snoc}
@@ -162,14 +163,6 @@ keys-kept true n key l = length-set l n key
 keys-kept false n key l = refl
 
 -- ---- the areas with the row written
-keyed-coded : (e : Encoding) → keyed e ≡ true → coded e ≡ true
-unfolding keyed coded
-keyed-coded Plain h = h
-keyed-coded Nullable h = h
-keyed-coded RunLength h = refl
-keyed-coded RunLengthNullable h = refl
-keyed-coded Dictionary h = refl
-
 abbrev pub writtenBy : Kind → Encoding → List Row → Row → Counted → Lent → Lent
 writtenBy k e rows x r a = laid k e r x (itemBy e rows x) (joinsBy e rows x) (keyBy e rows x) a
 

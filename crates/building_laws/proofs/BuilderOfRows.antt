@@ -30,9 +30,10 @@ use Rattle.building_laws.proofs.Records.{Recorded, nextBy, recorded-nex
 use Rattle.building_laws.proofs.AreasOfRows.{EndsHeld, LensHeld, Holds, writtenBy, holds-next}
 use Rattle.building_laws.proofs.StepOfRow.{step-told}
 
-pub record Stands (k : Kind) (e : Encoding) (target : ℕ) (xs : List Row) (r : Builder) (a : Lent) : Type 0 where
+pub record Stands (k : Kind) (e : Encoding) (target key : ℕ) (xs : List Row) (r : Builder) (a : Lent) : Type 0 where
   pub column : columnOf (r .kind) (r .encoding) (r .width) ≡ Of k e
   pub aim : r .target ≡ target
+  pub keyAim : r .keytarget ≡ key
   pub recorded : Recorded k e xs (r .counted)
   pub holds : Holds k e xs a
   pub within : withinLimits k e xs ≡ true
@@ -94,11 +95,11 @@ module _ (k : Kind) (e : Encoding) where
     keysFit = λ u. rw (no-runs e) tt;
   }
 
-  pub stands-first : (kind encoding width target : ℕ) → columnOf kind encoding width ≡ Of k e → (a : Lent) → Stands k e target [] (empty kind encoding width target) a
-  stands-first kind encoding width target c a = record { column = c; aim = refl; recorded = none-recorded; holds = none-holds a; within = none-within k e }
+  pub stands-first : (kind encoding width target key : ℕ) → columnOf kind encoding width ≡ Of k e → (a : Lent) → Stands k e target key [] (empty kind encoding width target key) a
+  stands-first kind encoding width target key c a = record { column = c; aim = refl; keyAim = refl; recorded = none-recorded; holds = none-holds a; within = none-within k e }
 
 -- ---- one append
-module _ (k : Kind) (e : Encoding) (target : ℕ) (rows : List Row) (r : Builder) (a : Lent) (g : Stands k e target rows r a) where
+module _ (k : Kind) (e : Encoding) (target key : ℕ) (rows : List Row) (r : Builder) (a : Lent) (g : Stands k e target key rows r a) where
   pub not-wrong : recordWrong k e (r .counted) ≡ false
   not-wrong = record-right k e rows (r .counted) (g .recorded) (g .holds .fit) (g .within)
 
@@ -139,10 +140,11 @@ module _ (k : Kind) (e : Encoding) (target : ℕ) (rows : List Row) (r : Builder
           )
 
       pub stands-next : fits k x ≡ true → withinLimits k e (rows ++ (x ∷ [])) ≡ true
-          → Stands k e target (rows ++ (x ∷ [])) (counting r (nextBy k e rows x (r .counted))) (writtenBy k e rows x (r .counted) a)
+          → Stands k e target key (rows ++ (x ∷ [])) (counting r (nextBy k e rows x (r .counted))) (writtenBy k e rows x (r .counted) a)
       stands-next f w = record {
         column = g .column;
         aim = g .aim;
+        keyAim = g .keyAim;
         recorded = next-recorded;
         holds = holds-next k e rows x (r .counted) a (g .recorded) room (g .holds) f (within-told k e rows (g .within) .entries);
         within = w;

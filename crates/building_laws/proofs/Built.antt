@@ -45,9 +45,9 @@ onward-told false w r a c b rest = refl
 onward-told true false r a c b rest = refl
 onward-told true true r a c b rest = refl
 
-module _ (k : Kind) (e : Encoding) (target : ℕ) where
+module _ (k : Kind) (e : Encoding) (target key : ℕ) where
   -- the first of some rows, and then the others
-  first-then : (v : Given) (gs : List Given) (done : List Row) (r : Builder) (a : Lent) → Stands k e target done r a → Enough k e (done ++ (rowIn k v ∷ [])) a
+  first-then : (v : Given) (gs : List Given) (done : List Row) (r : Builder) (a : Lent) → Stands k e target key done r a → Enough k e (done ++ (rowIn k v ∷ [])) a
       → appendAll r a (v ∷ gs)
       ≡ cond (not (fits k (rowIn k v))) (appendOf ITEM r a)
       (cond (not (withinLimits k e (done ++ (rowIn k v ∷ [])))) (appendOf LIMIT r a)
@@ -55,13 +55,13 @@ module _ (k : Kind) (e : Encoding) (target : ℕ) where
   unfolding appendAll
   first-then v gs done r a g one =
       let x : Row = rowIn k v in
-      ap (λ (o : Append). onward o (λ s b. appendAll s b gs)) (given-told k e target done r a g v ∙ ap (appendWith r) (append-told k e target done r a g x one))
+      ap (λ (o : Append). onward o (λ s b. appendAll s b gs)) (given-told k e target key done r a g v ∙ ap (appendWith r) (append-told k e target key done r a g x one))
       ∙ onward-told (fits k x) (withinLimits k e (done ++ (x ∷ []))) r a (nextBy k e done x (r .counted)) (writtenBy k e done x (r .counted) a) (λ s b. appendAll s b gs)
 
   -- what is reached: the number, and if it is 0, a builder and areas that stand so, the areas as long as they were
   record Reached (done rows : List Row) (a : Lent) (o : Append) : Type 0 where
     number : o .answer .number ≡ verdictAfter k e done rows
-    stands : verdictAfter k e done rows ≡ 0 → Stands k e target (done ++ rows) (o .answer .builder) (o .areas)
+    stands : verdictAfter k e done rows ≡ 0 → Stands k e target key (done ++ rows) (o .answer .builder) (o .areas)
     kept : verdictAfter k e done rows ≡ 0 → Kept a (o .areas)
 
   -- one more row in front
@@ -81,7 +81,7 @@ module _ (k : Kind) (e : Encoding) (target : ℕ) where
         kept = λ z. kept-then a b (o .areas) c (d .kept (rw (p, q) at z));
       }
 
-  reached : (gs : List Given) (done : List Row) (r : Builder) (a : Lent) → Stands k e target done r a → Enough k e (done ++ rowsIn k gs) a
+  reached : (gs : List Given) (done : List Row) (r : Builder) (a : Lent) → Stands k e target key done r a → Enough k e (done ++ rowsIn k gs) a
       → Reached done (rowsIn k gs) a (appendAll r a gs)
   unfolding appendAll verdictAfter
   reached [] done r a g h = record { number = refl; stands = λ z. rw append-nil g; kept = λ z. kept-same a }
@@ -95,7 +95,7 @@ module _ (k : Kind) (e : Encoding) (target : ℕ) where
       let long : Kept a b = kept-next k e done x (r .counted) a (g .recorded) one in
       subst (λ (o : Append). Reached done (x ∷ rows) a o) (sym (first-then v gs done r a g one))
       (reached-more done x rows r a b (appendAll s b gs) (fits k x) (withinLimits k e (done ++ (x ∷ []))) refl refl long
-      (λ f w. reached gs (done ++ (x ∷ [])) s b (stands-next k e target done r a g x one f w) (kept-enough k e (done ++ (x ∷ []) ++ rows) a b long h′)))
+      (λ f w. reached gs (done ++ (x ∷ [])) s b (stands-next k e target key done r a g x one f w) (kept-enough k e (done ++ (x ∷ []) ++ rows) a b long h′)))
 
 -- ---- rows in two parts
 onward-same : (o : Append) (p q : Builder → Lent → Append) → ((s : Builder) (b : Lent) → p s b ≡ q s b) → onward o p ≡ onward o q
@@ -123,11 +123,11 @@ unfolding onward
 onward-zero o rest h = simp (eq-eqb (o .answer .number) 0 h)
 
 -- a refused row, whatever follows
-first-kept : (k : Kind) (e : Encoding) (target : ℕ) (done : List Row) (r : Builder) (a : Lent) → Stands k e target done r a → (v : Given) (more : List Given)
+first-kept : (k : Kind) (e : Encoding) (target key : ℕ) (done : List Row) (r : Builder) (a : Lent) → Stands k e target key done r a → (v : Given) (more : List Given)
     → Enough k e (done ++ (rowIn k v ∷ [])) a → (fits k (rowIn k v) ≡ true → withinLimits k e (done ++ (rowIn k v ∷ [])) ≡ true → ⊥)
     → (appendAll r a (v ∷ more) .answer .builder ≡ r) × (appendAll r a (v ∷ more) .areas ≡ a)
-first-kept k e target done r a g v more one bad =
-    rw (first-then k e target v more done r a g one) (go (fits k (rowIn k v)) (withinLimits k e (done ++ (rowIn k v ∷ []))) refl refl)
+first-kept k e target key done r a g v more one bad =
+    rw (first-then k e target key v more done r a g one) (go (fits k (rowIn k v)) (withinLimits k e (done ++ (rowIn k v ∷ []))) refl refl)
   where
     go : (f w : Bool) → fits k (rowIn k v) ≡ f → withinLimits k e (done ++ (rowIn k v ∷ [])) ≡ w
         → let s = counting r (nextBy k e done (rowIn k v) (r .counted)) in
@@ -138,19 +138,19 @@ first-kept k e target done r a g v more one bad =
     go true true p q = absurd (bad p q)
 
 -- ---- finish, the estimate and should_finish of a builder that stands well
-module _ (k : Kind) (e : Encoding) (target : ℕ) (rows : List Row) (r : Builder) (a : Lent) (g : Stands k e target rows r a) where
+module _ (k : Kind) (e : Encoding) (target key : ℕ) (rows : List Row) (r : Builder) (a : Lent) (g : Stands k e target key rows r a) where
   pub finish-told : Enough k e rows a → (out : List ℕ) → finished r a out ≡ finishedWith r (blockOf k e rows) out
   unfolding finished finishedIn
   finish-told h out =
-      rw (g .column, agreed k e target rows r a g h, block-held k rows (r .counted) a e (g .recorded) (g .holds))
+      rw (g .column, agreed k e target key rows r a g h, block-held k rows (r .counted) a e (g .recorded) (g .holds))
 
   pub estimate-told : estimated r ≡ estimatedAs 0 (estimateOf k e rows) r
   unfolding estimated estimatedIn
-  estimate-told = rw (g .column, not-wrong k e target rows r a g, size-told k rows (r .counted) e (g .recorded))
+  estimate-told = rw (g .column, not-wrong k e target key rows r a g, size-told k rows (r .counted) e (g .recorded))
 
-  pub asked-told : (next : Given) → asked r (next .present) (length (next .text)) ≡ askedAs 0 (shouldFinish k e target rows (rowIn k next)) r
+  pub asked-told : (next : Given) → asked r (next .present) (length (next .text)) ≡ askedAs 0 (shouldFinish k e target key rows (rowIn k next)) r
   unfolding asked askedIn
-  asked-told next = rw (g .column, not-wrong k e target rows r a g, full-told k rows (r .counted) (r .target) next e (g .recorded), g .aim)
+  asked-told next = rw (g .column, not-wrong k e target key rows r a g, full-told k rows (r .counted) (r .target) (r .keytarget) next e (g .recorded), g .aim, g .keyAim)
 
 -- the block from the room's start on, and what lies behind it
 pub finish-due : (r : Builder) (block out : List ℕ) → finishedWith r block out ≡ finishDue r block out
@@ -159,25 +159,25 @@ finish-due r block out = rw zero-add
 
 -- ---- from the creation on: rows appended one after the other, with areas that are long enough for all of them
 -- a pair of a kind and an encoding is given a builder
-pub creation : (kind encoding width target : ℕ) (k : Kind) (e : Encoding) → columnOf kind encoding width ≡ Of k e
-    → created kind encoding width target ≡ New (empty kind encoding width target)
+pub creation : (kind encoding width target key : ℕ) (k : Kind) (e : Encoding) → columnOf kind encoding width ≡ Of k e
+    → created kind encoding width target key ≡ New (empty kind encoding width target key)
 unfolding created createdIn
-creation kind encoding width target k e c = rw c
+creation kind encoding width target key k e c = rw c
 
 pub created-told : (c : Column) (s r : Builder) (k : Kind) (e : Encoding) → c ≡ Of k e → createdIn c s ≡ New r → s ≡ r
 unfolding createdIn
 created-told c s r k e p q = let z : New s ≡ New r = rw p at q in cc
 
-module _ (kind encoding width target : ℕ) (k : Kind) (e : Encoding) (column : columnOf kind encoding width ≡ Of k e)
-    (r : Builder) (new : created kind encoding width target ≡ New r) (gs : List Given) (a : Lent) (room : Enough k e (rowsIn k gs) a) where
-  first : empty kind encoding width target ≡ r
+module _ (kind encoding width target key : ℕ) (k : Kind) (e : Encoding) (column : columnOf kind encoding width ≡ Of k e)
+    (r : Builder) (new : created kind encoding width target key ≡ New r) (gs : List Given) (a : Lent) (room : Enough k e (rowsIn k gs) a) where
+  first : empty kind encoding width target key ≡ r
   unfolding created
-  first = created-told (columnOf kind encoding width) (empty kind encoding width target) r k e column new
+  first = created-told (columnOf kind encoding width) (empty kind encoding width target key) r k e column new
 
-  all : Reached k e target [] (rowsIn k gs) a (appendAll r a gs)
+  all : Reached k e target key [] (rowsIn k gs) a (appendAll r a gs)
   all =
-      reached k e target gs [] r a
-      (subst (λ (s : Builder). Stands k e target [] s a) first (stands-first k e kind encoding width target column a)) room
+      reached k e target key gs [] r a
+      (subst (λ (s : Builder). Stands k e target key [] s a) first (stands-first k e kind encoding width target key column a)) room
 
   -- The answer is the verdict on the list, which is 0 exactly if the list is accepted.
   pub accepted-exactly : (appendAll r a gs .answer .number ≡ verdict k e (rowsIn k gs)) × (accepted k e (rowsIn k gs) ≡ eqb (appendAll r a gs .answer .number) 0)
@@ -194,7 +194,7 @@ module _ (kind encoding width target : ℕ) (k : Kind) (e : Encoding) (column : 
     unfolding verdict
     zero-told = eqb-true (verdictAfter k e [] (rowsIn k gs)) 0 (sym (verdict-told k e (rowsIn k gs)) ∙ good)
 
-    there : Stands k e target (rowsIn k gs) (appendAll r a gs .answer .builder) (appendAll r a gs .areas)
+    there : Stands k e target key (rowsIn k gs) (appendAll r a gs .answer .builder) (appendAll r a gs .areas)
     there = all .stands zero-told
 
     -- Finish writes exactly the block of the list into any room that holds it, nothing past it, and answers its length; a shorter room is refused as 4. Either
@@ -203,27 +203,27 @@ module _ (kind encoding width target : ℕ) (k : Kind) (e : Encoding) (column : 
         → finished (appendAll r a gs .answer .builder) (appendAll r a gs .areas) out
         ≡ finishDue (appendAll r a gs .answer .builder) (blockOf k e (rowsIn k gs)) out
     finish-gives-the-block out =
-        finish-told k e target (rowsIn k gs) (appendAll r a gs .answer .builder) (appendAll r a gs .areas) there
+        finish-told k e target key (rowsIn k gs) (appendAll r a gs .answer .builder) (appendAll r a gs .areas) there
         (kept-enough k e (rowsIn k gs) a (appendAll r a gs .areas) (all .kept zero-told) room) out
         ∙ finish-due (appendAll r a gs .answer .builder) (blockOf k e (rowsIn k gs)) out
 
     -- The estimated size is that of the list.
     pub estimate-of-the-list :
         estimated (appendAll r a gs .answer .builder) ≡ estimatedAs 0 (estimateOf k e (rowsIn k gs)) (appendAll r a gs .answer .builder)
-    estimate-of-the-list = estimate-told k e target (rowsIn k gs) (appendAll r a gs .answer .builder) (appendAll r a gs .areas) there
+    estimate-of-the-list = estimate-told k e target key (rowsIn k gs) (appendAll r a gs .answer .builder) (appendAll r a gs .areas) there
 
     -- Whether to finish before a next row is what the list and that row say.
     pub should-finish-of-the-list : (next : Given)
         → asked (appendAll r a gs .answer .builder) (next .present) (length (next .text))
-        ≡ askedAs 0 (shouldFinish k e target (rowsIn k gs) (rowIn k next)) (appendAll r a gs .answer .builder)
-    should-finish-of-the-list next = asked-told k e target (rowsIn k gs) (appendAll r a gs .answer .builder) (appendAll r a gs .areas) there next
+        ≡ askedAs 0 (shouldFinish k e target key (rowsIn k gs) (rowIn k next)) (appendAll r a gs .answer .builder)
+    should-finish-of-the-list next = asked-told k e target key (rowsIn k gs) (appendAll r a gs .answer .builder) (appendAll r a gs .areas) there next
 
     -- A row that is then refused leaves the builder and the areas as the rows before it left them, whatever would follow.
     pub refusal-keeps-the-rows : (v : Given) (more : List Given) → Enough k e (rowsIn k (gs ++ (v ∷ more))) a → accepted k e (rowsIn k (gs ++ (v ∷ []))) ≡ false
         → (appendAll r a (gs ++ (v ∷ more)) .answer .builder ≡ appendAll r a gs .answer .builder) × (appendAll r a (gs ++ (v ∷ more)) .areas ≡ appendAll r a gs .areas)
     refusal-keeps-the-rows v more h bad =
         rw (append-parts gs (v ∷ more) r a, onward-zero (appendAll r a gs) (λ s b. appendAll s b (v ∷ more)) (all .number ∙ zero-told))
-        (first-kept k e target (rowsIn k gs) (appendAll r a gs .answer .builder) (appendAll r a gs .areas) there v more one
+        (first-kept k e target key (rowsIn k gs) (appendAll r a gs .answer .builder) (appendAll r a gs .areas) there v more one
         (λ f w. never (sym bad ∙ ap (accepted k e) (map-append (rowIn k) gs (v ∷ [])) ∙ accepted-snoc k e (rowsIn k gs) (rowIn k v) good f w)))
       where
         whole : Enough k e (rowsIn k gs ++ (rowIn k v ∷ rowsIn k more)) a

@@ -19,7 +19,7 @@ use Rattle.encode.proofs.RoundTrip.{lowest, interval-parts}
 use Rattle.varint.specs.Varint.{spelling}
 use Rattle.plain.specs.Each.{Each}
 use Rattle.plain.specs.Rows.{Row, null, int, intIn, bytesIn, rowOf, valueOf, fits}
-use Rattle.plain.specs.Plain.{joined, places, itemOf, endsFrom, plainOf}
+use Rattle.plain.specs.Plain.{joined, places, itemOf, plainOf}
 use Rattle.nullable.specs.Nullable.{presence, bitmapOf, nullableOf, bitAt}
 use Rattle.nullable.proofs.Bits.{length-bitmap}
 use Rattle.rle.specs.RunLength.{Run, runsFrom, runsOf, countsOf, runLengthOf}
@@ -27,7 +27,7 @@ use Rattle.dict.specs.Dictionary.{i32, entriesOf, keyBlockOf, dictionaryOf}
 use Rattle.format.specs.declared.Encoding.{Encoding}
 use Rattle.format.specs.declared.Encoding.the-variants.{Plain, Nullable, RunLength, RunLengthNullable, Dictionary}
 use Rattle.format.specs.Blocks.{blockOf}
-use Rattle.format.specs.Sizes.{runRows, keysOf, storedEntries, plainSize, nullableSize, runLengthSize, estimateOf, nextSize, fullWith, plainFull, nullableFull, keyTarget, shouldFinish}
+use Rattle.format.specs.Sizes.{runRows, keysOf, storedEntries, plainSize, nullableSize, runLengthSize, estimateOf, nextSize, fullWith, plainFull, nullableFull, shouldFinish}
 use Rattle.emit.specs.Parts.{heldPlain, heldInner, heldCounts, heldRuns, heldKeys, heldDictionary}
 use Rattle.needs.specs.declared.Counted.{Counted}
 use Rattle.needs.specs.Needs.{flagged, keyed, plainBytes}
@@ -126,13 +126,14 @@ module _ (k : Kind) (rows : List Row) (r : Counted) (a : Lent) where
   block-held Dictionary h g = dictionary-block h g
 
 -- ---- the estimated size
+-- a key is four bytes, and each run has one
+pub key-size : (rows : List Row) → length (plainOf i32 (runRows (keysOf rows))) ≡ 4 * length (runsOf (keysOf rows))
+key-size rows = keys-length (runRows (keysOf rows)) ∙ ap (λ (n : ℕ). 4 * n) (rows-length (keysOf rows))
+
 module _ (k : Kind) (rows : List Row) (r : Counted) where
   inner-size : (e : Encoding) → Recorded k e rows r → innerSize k e r ≡ plainSize k (storedRows e rows) + cond (flagged e) (length (bitmapOf (storedRows e rows))) 0
   unfolding innerSize plainSize
   inner-size e h = rw (plain-by k rows r e h, stored-by k rows r e h, length-bitmap (storedRows e rows))
-
-  key-size : length (plainOf i32 (runRows (keysOf rows))) ≡ 4 * length (runsOf (keysOf rows))
-  key-size = keys-length (runRows (keysOf rows)) ∙ ap (λ (n : ℕ). 4 * n) (rows-length (keysOf rows))
 
   pub size-told : (e : Encoding) → Recorded k e rows r → sizeBy k e r ≡ estimateOf k e rows
   unfolding sizeBy runSize estimateOf nullableSize runLengthSize flagged storedRows storedRuns plainSize
@@ -140,7 +141,7 @@ module _ (k : Kind) (rows : List Row) (r : Counted) where
   size-told Nullable h = inner-size Nullable h
   size-told RunLength h = rw (inner-size RunLength h, add-zero, h .runs)
   size-told RunLengthNullable h = rw (inner-size RunLengthNullable h, h .runs)
-  size-told Dictionary h = rw (inner-size Dictionary h, add-zero, h .runs, key-size)
+  size-told Dictionary h = rw (inner-size Dictionary h, add-zero, h .runs, key-size rows)
 
 -- ---- should_finish
 -- the next item, by what is asked of it
@@ -154,26 +155,20 @@ next-told (Blob text) g = go (g .present)
     go true = refl
     go false = refl
 
-no-keys : (k : Kind) → keyTarget k ≡ 0
-unfolding keyTarget plainSize plainOf joined endsFrom
-no-keys (Fixed p) = refl
-no-keys (Char w) = refl
-no-keys (Blob text) = refl
-
-module _ (k : Kind) (rows : List Row) (r : Counted) (target : ℕ) (g : Given) where
+module _ (k : Kind) (rows : List Row) (r : Counted) (target key : ℕ) (g : Given) where
   items-full : (e : Encoding) → Recorded k e rows r
       → itemsFull k e r target (g .present) (length (g .text)) ≡ fullWith (nextSize k (rowIn k g) + cond (flagged e) 1 0) k target (storedRows e rows)
   unfolding itemsFull exceeds fullWith plainSize
   items-full e h = rw (plain-by k rows r e h, h .bytes, next-told k g)
 
-  keys-full : Recorded k Dictionary rows r → keysFull r ≡ plainFull i32 (keyTarget k) (runRows (keysOf rows)) null
+  keys-full : Recorded k Dictionary rows r → keysFull r key ≡ plainFull i32 key (runRows (keysOf rows)) null
   unfolding keysFull exceeds plainBytes plainFull fullWith nextSize plainSize plainOf storedRuns
-  keys-full h = rw (no-keys k, h .runs, key-size k rows r)
+  keys-full h = rw (h .runs, key-size rows)
 
-  pub full-told : (e : Encoding) → Recorded k e rows r → fullBy k e r target (g .present) (length (g .text)) ≡ shouldFinish k e target rows (rowIn k g)
+  pub full-told : (e : Encoding) → Recorded k e rows r → fullBy k e r target key (g .present) (length (g .text)) ≡ shouldFinish k e target key rows (rowIn k g)
   unfolding fullBy shouldFinish plainFull nullableFull flagged storedRows
   full-told Plain h = rw add-zero at (items-full Plain h)
   full-told Nullable h = items-full Nullable h
   full-told RunLength h = rw add-zero at (items-full RunLength h)
   full-told RunLengthNullable h = items-full RunLengthNullable h
-  full-told Dictionary h = rw (keys-full h) (ap (λ (t : Bool). t || plainFull i32 (keyTarget k) (runRows (keysOf rows)) null) (rw add-zero at (items-full Dictionary h)))
+  full-told Dictionary h = rw (keys-full h) (ap (λ (t : Bool). t || plainFull i32 key (runRows (keysOf rows)) null) (rw add-zero at (items-full Dictionary h)))

@@ -16,3 +16,4 @@ pub mod BuilderOfRows
 pub mod Verdict
 pub mod Built
 pub mod Refusing
+pub mod Cut

@@ -91,7 +91,7 @@ module _ (r : Builder) where
     asked-by Unknown = refl
     asked-by (Of k e) = go (recordWrong k e (r .counted))
       where
-        go : (b : Bool) → cond b (askedAs DISAGREE false r) (askedAs 0 (fullBy k e (r .counted) (r .target) present len) r) .builder ≡ r
+        go : (b : Bool) → cond b (askedAs DISAGREE false r) (askedAs 0 (fullBy k e (r .counted) (r .target) (r .keytarget) present len) r) .builder ≡ r
         go true = refl
         go false = refl
 

@@ -10,11 +10,11 @@ use Rattle.capi.specs.Answers.{noBuilder, creationOf}
 abbrev creation : ℕ → Builder → Creation
 creation e b = record { number = e; builder = b }
 
-module _ {x y : Created} (answer : x ≡ y) where
-  pub makes : {b : Builder} → x ≡ New b → creation 0 b ≡ creationOf y
+module _ {x : Created} where
+  pub makes : {b : Builder} → x ≡ New b → creation 0 b ≡ creationOf x
   unfolding creationOf
-  makes q = rw (← answer, q)
+  makes q = rw q
 
-  pub makes-none : {e : ℕ} {b : Builder} → x ≡ NotMade e → b ≡ noBuilder → creation e b ≡ creationOf y
+  pub makes-none : {e : ℕ} {b : Builder} → x ≡ NotMade e → b ≡ noBuilder → creation e b ≡ creationOf x
   unfolding creationOf
-  makes-none q none = rw (← answer, q, none)
+  makes-none q none = rw (q, none)

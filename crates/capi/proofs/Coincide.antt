@@ -34,8 +34,9 @@ pub one-remaining : (reader : Reader) (x y : Left) → Remains reader x → Rema
 one-remaining reader x y p q = p ∙ sym q
 
 -- ---- building
-pub one-creation : (kind encoding width target : ℕ) (x y : Creation) → Creates kind encoding width target x → Creates kind encoding width target y → x ≡ y
-one-creation kind encoding width target x y p q = p ∙ sym q
+pub one-creation : (kind encoding width target key : ℕ) (x y : Creation)
+    → Creates kind encoding width target key x → Creates kind encoding width target key y → x ≡ y
+one-creation kind encoding width target key x y p q = p ∙ sym q
 
 pub one-finish : (builder : Builder) (lent : Lent) (room : List ℕ) (x y : Finished) (a b : List ℕ)
     → Finishes builder lent room x a → Finishes builder lent room y b → (x ≡ y) × (a ≡ b)

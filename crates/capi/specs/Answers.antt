@@ -7,7 +7,7 @@ use Rattle.capi.specs.declared.building.Creation.{Creation}
 
 -- The record beside a refused creation: no kind has the number 255.
 abbrev pub noBuilder : Builder
-noBuilder = empty 255 0 0 0
+noBuilder = empty 255 0 0 0 0
 
 unfoldable pub creationOf : Created → Creation
 creationOf (New b) = record { number = 0; builder = b }

@@ -42,8 +42,9 @@ abbrev pub Remains : (reader : Reader) → Left → Type 0
 Remains reader answer = answer ≡ remaining reader
 
 -- ---- building
-abbrev pub Creates : (kind encoding width target : ℕ) → Creation → Type 0
-Creates kind encoding width target answer = answer ≡ creationOf (created kind encoding width target)
+-- with the target of the keys last
+abbrev pub Creates : (kind encoding width target key : ℕ) → Creation → Type 0
+Creates kind encoding width target key answer = answer ≡ creationOf (created kind encoding width target key)
 
 abbrev pub Finishes : (builder : Builder) (lent : Lent) (room : List ℕ) → Finished → List ℕ → Type 0
 Finishes builder lent room answer out = (answer ≡ finished builder lent room .answer) × (out ≡ finished builder lent room .out)

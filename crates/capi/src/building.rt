@@ -10,7 +10,7 @@ ghost use mathlib.Core.Bool.{not};
 ghost use lib.Dec.{eqb};
 ghost use Rattle.append.specs.Appending.{lent};
 ghost use Rattle.builder.specs.Promises.{Appends};
-ghost use Rattle.capi.specs.Answers.{noBuilder};
+ghost use Rattle.capi.specs.Answers.{noBuilder, creationOf};
 ghost use Rattle.capi.specs.Promises.{Creates, Finishes, Estimates, Asks};
 
 // What creation answers: 0 and a builder, or a refusal and the record that every call refuses.
@@ -24,7 +24,7 @@ pub struct Creation {
 fn no_builder() -> Builder
     ensures { λ r. ⌜ r ≡ noBuilder ⌝ }
 {
-    Builder::new(255, 0, 0, 0)
+    Builder::new(255, 0, 0, 0, 0)
 }
 
 // A flag from C: 0 is null.
@@ -34,12 +34,10 @@ fn is_present(flag: u8) -> bool
     flag != 0
 }
 
-// A builder with nothing appended.
-#[no_mangle]
-pub extern "C" fn idz_create(kind: usize, encoding: usize, width: usize, target: usize) -> Creation
-    ensures { λ r. ⌜ Creates kind encoding width target r ⌝ }
+// The answer of a creation as it crosses to C.
+fn creation_of(answer: Created) -> Creation
+    ensures { λ r. ⌜ r ≡ creationOf answer ⌝ }
 {
-    let answer = builder::create(kind, encoding, width, target);
     match answer {
         Created::New(builder) => Creation { number: 0, builder },
         Created::Refused(number) => Creation {
@@ -47,6 +45,28 @@ pub extern "C" fn idz_create(kind: usize, encoding: usize, width: usize, target:
             builder: no_builder(),
         },
     }
+}
+
+// A builder with nothing appended. Its target is that of a dictionary's keys too.
+#[no_mangle]
+pub extern "C" fn idz_create(kind: usize, encoding: usize, width: usize, target: usize) -> Creation
+    ensures { λ r. ⌜ Creates kind encoding width target target r ⌝ }
+{
+    creation_of(builder::create(kind, encoding, width, target))
+}
+
+// The same with another target for a dictionary's keys.
+#[no_mangle]
+pub extern "C" fn idz_create_with_key_target(
+    kind: usize,
+    encoding: usize,
+    width: usize,
+    target: usize,
+    keytarget: usize,
+) -> Creation
+    ensures { λ r. ⌜ Creates kind encoding width target keytarget r ⌝ }
+{
+    creation_of(builder::create_with_key_target(kind, encoding, width, target, keytarget))
 }
 
 // Appends one row: whether it is present, its integer for a fixed kind, its bytes for char, blob and string.

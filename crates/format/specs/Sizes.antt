@@ -62,17 +62,14 @@ plainFull k target rows next = fullWith (nextSize k next) k target rows
 unfoldable pub nullableFull : Kind → ℕ → List Row → Row → Bool
 nullableFull k target rows next = fullWith (nextSize k next + 1) k target rows
 
--- the target of a dictionary's keys is the entries' estimated size at creation
-unfoldable pub keyTarget : Kind → ℕ
-keyTarget k = plainSize k []
-
-unfoldable pub shouldFinish : Kind → Encoding → ℕ → List Row → Row → Bool
-shouldFinish k Plain target rows next = plainFull k target rows next
-shouldFinish k Nullable target rows next = nullableFull k target rows next
-shouldFinish k RunLength target rows next = plainFull k target (runRows rows) next
-shouldFinish k RunLengthNullable target rows next = nullableFull k target (runRows rows) next
-shouldFinish k Dictionary target rows next =
-    plainFull k target (entriesOf rows) next || plainFull i32 (keyTarget k) (runRows (keysOf rows)) null
+-- with two targets: a dictionary asks its entries with the first and its keys with the second; no other encoding looks at that
+unfoldable pub shouldFinish : Kind → Encoding → ℕ → ℕ → List Row → Row → Bool
+shouldFinish k Plain target key rows next = plainFull k target rows next
+shouldFinish k Nullable target key rows next = nullableFull k target rows next
+shouldFinish k RunLength target key rows next = plainFull k target (runRows rows) next
+shouldFinish k RunLengthNullable target key rows next = nullableFull k target (runRows rows) next
+shouldFinish k Dictionary target key rows next =
+    plainFull k target (entriesOf rows) next || plainFull i32 key (runRows (keysOf rows)) null
 
 -- ---- the limits: total rows, stored items or runs, entries, the finished block
 unfoldable pub storedItems : Encoding → List Row → ℕ

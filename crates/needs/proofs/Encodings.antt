@@ -102,6 +102,14 @@ pub coded-keys : (e : Encoding) → e ≡ Dictionary → coded e ≡ true
 unfolding coded
 coded-keys e q = subst (λ (x : Encoding). coded x ≡ true) (sym q) refl
 
+pub keyed-coded : (e : Encoding) → keyed e ≡ true → coded e ≡ true
+unfolding keyed coded
+keyed-coded Plain h = h
+keyed-coded Nullable h = h
+keyed-coded RunLength h = refl
+keyed-coded RunLengthNullable h = refl
+keyed-coded Dictionary h = refl
+
 -- ---- rows, runs and keys
 pub rows-coded : (f : Bool) → coded (rowsBy f) ≡ false
 unfolding coded

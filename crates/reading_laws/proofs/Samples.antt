@@ -34,7 +34,7 @@ unfolding Varint.more Varint.countWithin Varint.in32Bits Varint.countOf Varint.c
     Dictionary.slotAt Dictionary.known Dictionary.keysNumber Dictionary.dictionaryNumber Dictionary.entryRow Dictionary.entryGood Blocks.withEncoding
     Blocks.columnOf Blocks.blockOf Blocks.cut Blocks.filled Blocks.storedRow Blocks.storedForm Opening.rulesOf Opening.mostRows Opening.columnNumber
     Opening.openNumber Opening.headOf Opening.rowAt Opening.countsIn Opening.placesOf Opening.rowsOf Sizes.runRows Sizes.keysOf Sizes.plainSize
-    Sizes.nullableSize Sizes.runLengthSize Sizes.estimateOf Sizes.nextSize Sizes.fullWith Sizes.plainFull Sizes.nullableFull Sizes.keyTarget
+    Sizes.nullableSize Sizes.runLengthSize Sizes.estimateOf Sizes.nextSize Sizes.fullWith Sizes.plainFull Sizes.nullableFull
     Sizes.shouldFinish Sizes.storedItems Sizes.storedEntries Sizes.withinLimits Sizes.allFit Sizes.accepted Reading.headIn Reading.openedBy
     Reading.opened Tests.noRuns Tests.runsOutside Tests.partOutside Tests.runsWrong Tests.headWrong Reading.wrong Reading.nextSteps Reading.remainingIn
     Reading.remaining Tests.rowGood Reading.isBytes Reading.short Reading.filledIn Reading.givenBytes

@@ -21,6 +21,7 @@ fn run(
         0 => replay_by::create(s, next),
         1 => replay_by::append(s, next, items, ends, flags, counts, keys, lens),
         2 => replay_by::finish(next, items, ends, flags, counts, keys, lens, room),
+        6 => cut_by::run(s, next, items, ends, flags, counts, keys, lens, room),
         _ => replay_by::read(s, next, command, room),
     }
 }

@@ -134,44 +134,43 @@ module _ (k : Kind) (e : Encoding) (r : Counted) (target : ℕ) (present : Bool)
       let z : p + (x + f) + l ≡ plainBytes k (storedBy e r) (r .bytes) + (nextBytes k present len + cond (flagged e) 1 0) = omega (arith, a, b, c, s) in
       d ∙ ap (ltb target) z ∙ and-then {x = true} _ (sym (ap not (ne-eqb (r .bytes) 0 h))) refl
 
-pub keys-test : (r : Counted) → ltb 0 (r .runs) ≡ keysFull r
-unfolding keysFull exceeds plainBytes
-keys-test r = go (r .runs) refl
-  where
-    go : (n : ℕ) → n ≡ r .runs → ltb 0 (r .runs) ≡ (not (eqb (4 * r .runs) 0) && ltb 0 (4 * r .runs + 4))
-    go zero q = le-ltb 0 (r .runs) (omega arith) ∙ and-not {x = false} _ (sym (ap not (eq-eqb (4 * r .runs) 0 (omega arith)))) refl
-    go (suc n) q =
-        lt-ltb 0 (r .runs) (omega arith) ∙ sym (lt-ltb 0 (4 * r .runs + 4) (omega arith))
-        ∙ and-then {x = true} _ (sym (ap not (ne-eqb (4 * r .runs) 0 (λ z. omega (arith, z, q))))) refl
+module _ (r : Counted) (key : ℕ) where
+  pub no-keys : r .runs ≡ 0 → false ≡ keysFull r key
+  unfolding keysFull exceeds
+  no-keys h = and-not {x = false} _ (sym (ap not (eq-eqb (4 * r .runs) 0 (omega arith)))) refl
 
-module _ (k : Kind) (e : Encoding) (r : Counted) (target : ℕ) (present : Bool) (len : ℕ) {x : Bool} (q : x ≡ itemsFull k e r target present len) where
-  pub full-items : x ≡ true → true ≡ fullBy k e r target present len
+  pub some-keys : (r .runs ≡ 0 → ⊥) → ltb key (4 * r .runs + 4) ≡ keysFull r key
+  unfolding keysFull exceeds plainBytes
+  some-keys h = and-then {x = true} _ (sym (ap not (ne-eqb (4 * r .runs) 0 (λ z. h (omega (arith, z)))))) refl
+
+module _ (k : Kind) (e : Encoding) (r : Counted) (target key : ℕ) (present : Bool) (len : ℕ) {x : Bool} (q : x ≡ itemsFull k e r target present len) where
+  pub full-items : x ≡ true → true ≡ fullBy k e r target key present len
   unfolding fullBy
   full-items t = go e (sym q ∙ t)
     where
-      go : (e : Encoding) → itemsFull k e r target present len ≡ true → true ≡ fullBy k e r target present len
+      go : (e : Encoding) → itemsFull k e r target present len ≡ true → true ≡ fullBy k e r target key present len
       go Plain h = sym h
       go Nullable h = sym h
       go RunLength h = sym h
       go RunLengthNullable h = sym h
       go Dictionary h = or-first _ h
 
-  pub full-keys : x ≡ false → {y : Bool} → y ≡ keyed e → y ≡ true → {t : Bool} → t ≡ keysFull r → t ≡ fullBy k e r target present len
+  pub full-keys : x ≡ false → {y : Bool} → y ≡ keyed e → y ≡ true → {t : Bool} → t ≡ keysFull r key → t ≡ fullBy k e r target key present len
   unfolding fullBy keyed
   full-keys u p v {t} g = go e (sym q ∙ u) (sym p ∙ v)
     where
-      go : (e : Encoding) → itemsFull k e r target present len ≡ false → keyed e ≡ true → t ≡ fullBy k e r target present len
+      go : (e : Encoding) → itemsFull k e r target present len ≡ false → keyed e ≡ true → t ≡ fullBy k e r target key present len
       go Plain h s = apart (sym s)
       go Nullable h s = apart (sym s)
       go RunLength h s = apart (sym s)
       go RunLengthNullable h s = apart (sym s)
       go Dictionary h s = or-then h g
 
-  pub full-none : x ≡ false → {y : Bool} → y ≡ keyed e → y ≡ false → false ≡ fullBy k e r target present len
+  pub full-none : x ≡ false → {y : Bool} → y ≡ keyed e → y ≡ false → false ≡ fullBy k e r target key present len
   unfolding fullBy keyed
   full-none u p v = go e (sym q ∙ u) (sym p ∙ v)
     where
-      go : (e : Encoding) → itemsFull k e r target present len ≡ false → keyed e ≡ false → false ≡ fullBy k e r target present len
+      go : (e : Encoding) → itemsFull k e r target present len ≡ false → keyed e ≡ false → false ≡ fullBy k e r target key present len
       go Plain h s = sym h
       go Nullable h s = sym h
       go RunLength h s = sym h

@@ -1,4 +1,4 @@
--- 01, "Sizes": the estimated size and should_finish as functions of what is counted and the target, for any numbers. Assumes nothing.
+-- 01, "Sizes": the estimated size and should_finish as functions of what is counted and the targets, for any numbers. Assumes nothing.
 use Prim.Native.Nat.{ℕ, _+_, _*_}
 use mathlib.Core.Bool.{Bool, cond, not, _&&_, _||_}
 use lib.Dec.{ltb, eqb}
@@ -45,13 +45,13 @@ unfoldable pub itemsFull : Kind → Encoding → Counted → ℕ → Bool → �
 itemsFull k e r target present len =
     exceeds k (storedBy e r) (r .bytes) target (nextBytes k present len + cond (flagged e) 1 0)
 
--- the keys' target is the entries' estimated size at creation: 0
-unfoldable pub keysFull : Counted → Bool
-keysFull r = exceeds i32 (r .runs) (4 * r .runs) 0 4
+-- the keys, one a run, have a target of their own; the next row isn't looked at for them
+unfoldable pub keysFull : Counted → ℕ → Bool
+keysFull r key = exceeds i32 (r .runs) (4 * r .runs) key 4
 
-unfoldable pub fullBy : Kind → Encoding → Counted → ℕ → Bool → ℕ → Bool
-fullBy k Plain r target present len = itemsFull k Plain r target present len
-fullBy k Nullable r target present len = itemsFull k Nullable r target present len
-fullBy k RunLength r target present len = itemsFull k RunLength r target present len
-fullBy k RunLengthNullable r target present len = itemsFull k RunLengthNullable r target present len
-fullBy k Dictionary r target present len = itemsFull k Dictionary r target present len || keysFull r
+unfoldable pub fullBy : Kind → Encoding → Counted → ℕ → ℕ → Bool → ℕ → Bool
+fullBy k Plain r target key present len = itemsFull k Plain r target present len
+fullBy k Nullable r target key present len = itemsFull k Nullable r target present len
+fullBy k RunLength r target key present len = itemsFull k RunLength r target present len
+fullBy k RunLengthNullable r target key present len = itemsFull k RunLengthNullable r target present len
+fullBy k Dictionary r target key present len = itemsFull k Dictionary r target present len || keysFull r key

@@ -1,4 +1,4 @@
-// The estimated size, and whether to finish before a next row, from what is counted and the target alone.
+// The estimated size, and whether to finish before a next row, from what is counted and the targets alone.
 use encode::Kind;
 use format::Encoding;
 use needs::Counted;
@@ -114,30 +114,35 @@ fn items_full(c: Counted, target: usize, kind: Kind, e: Encoding, present: bool,
     exceed(target, have, more, next_len(kind, present, len))
 }
 
-// The rule of the keys: their target is 0, so that one key exceeds it.
-fn keys_full(c: Counted) -> bool
-    ensures { λ r. ⌜ r ≡ keysFull c ⌝ }
+// The rule of the keys: four bytes a run, and four more.
+fn keys_full(c: Counted, key: usize) -> bool
+    requires { ⌜ c .runs ≤ MOST_ITEMS ⌝ }
+    ensures { λ r. ⌜ r ≡ keysFull c key ⌝ }
 {
-    0 < c.runs
+    if c.runs == 0 {
+        return false;
+    }
+    key < 4 * c.runs + 4
 }
 
 pub fn is_full(
     c: Counted,
     target: usize,
+    key: usize,
     kind: Kind,
     e: Encoding,
     present: bool,
     len: usize,
 ) -> bool
     requires { ⌜ recordWrong kind e c ≡ false ⌝ }
-    ensures { λ r. ⌜ r ≡ fullBy kind e c target present len ⌝ }
+    ensures { λ r. ⌜ r ≡ fullBy kind e c target key present len ⌝ }
 {
     let items = items_full(c, target, kind, e, present, len);
     if items {
         return true;
     }
     if needs::is_keyed(e) {
-        return keys_full(c);
+        return keys_full(c, key);
     }
     false
 }

@@ -5,19 +5,19 @@ use script::show_size;
 
 // The record that stands where there is none: no call takes it.
 pub fn no_builder() -> Builder {
-    Builder::new(255, 0, 0, 0)
+    Builder::new(255, 0, 0, 0, 0)
 }
 
-// What is counted with another number in a field, counted from 4.
+// What is counted with another number in a field, counted from 5.
 fn counted_with(counted: Counted, field: usize, value: usize) -> Counted {
     let mut next = counted;
     match field {
-        4 => next.rows = value,
-        5 => next.runs = value,
-        6 => next.entries = value,
-        7 => next.bytes = value,
-        8 => next.last = value,
-        9 => next.null = value,
+        5 => next.rows = value,
+        6 => next.runs = value,
+        7 => next.entries = value,
+        8 => next.bytes = value,
+        9 => next.last = value,
+        10 => next.null = value,
         _ => next.counts = value,
     }
     next
@@ -31,6 +31,7 @@ pub fn with(b: Builder, field: usize, value: usize) -> Builder {
         1 => next.encoding = value,
         2 => next.width = value,
         3 => next.target = value,
+        4 => next.keytarget = value,
         _ => {
             let counted = b.counted;
             let changed = counted_with(counted, field, value);
@@ -45,6 +46,7 @@ pub fn show_builder(b: Builder) {
     show_size(b.encoding);
     show_size(b.width);
     show_size(b.target);
+    show_size(b.keytarget);
     let counted = b.counted;
     show_size(counted.rows);
     show_size(counted.runs);

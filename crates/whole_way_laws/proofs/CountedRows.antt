@@ -13,24 +13,24 @@ use Rattle.building_laws.specs.Built.{rowIn}
 use Rattle.any_building_laws.specs.BuilderCalls.{Ask, append, finish, estimate, shouldFinishBefore, Call, numberIn, appendNumber, due, acceptedBy, expected, acceptedIn}
 use Rattle.whole_way_laws.specs.WholeWay.{rowIfDone, rowsDone}
 
-module _ (k : Kind) (e : Encoding) (target : ℕ) where
+module _ (k : Kind) (e : Encoding) (target key : ℕ) where
   one-or-none : (t : Bool) (rows : List Row) (x : Row) → cond t (rows ++ (x ∷ [])) rows ≡ rows ++ cond t (x ∷ []) []
   one-or-none true rows x = refl
   one-or-none false rows x = sym (append-nil rows)
 
-  one-done : (rows : List Row) (a : Lent) (q : Ask) → acceptedBy k e rows a q ≡ rows ++ rowIfDone k q (due k e target rows a q)
+  one-done : (rows : List Row) (a : Lent) (q : Ask) → acceptedBy k e rows a q ≡ rows ++ rowIfDone k q (due k e target key rows a q)
   unfolding acceptedBy rowIfDone due numberIn
   one-done rows a (append v) = one-or-none (eqb (appendNumber k e rows (rowIn k v) (roomOf a)) 0) rows (rowIn k v)
   one-done rows a (finish out) = sym (append-nil rows)
   one-done rows a estimate = sym (append-nil rows)
   one-done rows a (shouldFinishBefore v) = sym (append-nil rows)
 
-  pub done-among-expected : (cs : List Call) (rows : List Row) → acceptedIn k e rows cs ≡ rows ++ rowsDone k cs (expected k e target rows cs)
+  pub done-among-expected : (cs : List Call) (rows : List Row) → acceptedIn k e rows cs ≡ rows ++ rowsDone k cs (expected k e target key rows cs)
   unfolding acceptedIn rowsDone expected
   done-among-expected [] rows = sym (append-nil rows)
   done-among-expected (c ∷ cs) rows =
       let next : List Row = acceptedBy k e rows (c .areas) (c .ask) in
-      let rest : List Row = rowsDone k cs (expected k e target next cs) in
+      let rest : List Row = rowsDone k cs (expected k e target key next cs) in
       done-among-expected cs next
       ∙ ap (λ (l : List Row). l ++ rest) (one-done rows (c .areas) (c .ask))
-      ∙ append-assoc rows (rowIfDone k (c .ask) (due k e target rows (c .areas) (c .ask))) rest
+      ∙ append-assoc rows (rowIfDone k (c .ask) (due k e target key rows (c .areas) (c .ask))) rest

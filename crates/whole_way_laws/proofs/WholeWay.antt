@@ -28,11 +28,11 @@ use Rattle.whole_way_laws.specs.WholeWay.{rowsDone, finishedAfter, writt
 use Rattle.whole_way_laws.proofs.Written.{done-if-held, short-if-not, held-if-done, block-written, behind-stays}
 use Rattle.whole_way_laws.proofs.CountedRows.{done-among-expected}
 
-module _ (kind encoding width target : ℕ) (k : Kind) (e : Encoding) (column : columnOf kind encoding width ≡ Of k e)
-    (r : Builder) (new : created kind encoding width target ≡ New r) where
+module _ (kind encoding width target key : ℕ) (k : Kind) (e : Encoding) (column : columnOf kind encoding width ≡ Of k e)
+    (r : Builder) (new : created kind encoding width target key ≡ New r) where
   -- The rows accepted are those whose append was answered with 0, in order; so a caller who counts these answers opens with the number of rows accepted.
   pub accepted-as-answered : (cs : List BuilderCall) → Carried k e r cs → acceptedIn k e [] cs ≡ rowsDone k cs (answers r cs)
-  accepted-as-answered cs h = rw (any-building-calls kind encoding width target k e column r new cs h) (done-among-expected k e target cs [])
+  accepted-as-answered cs h = rw (any-building-calls kind encoding width target key k e column r new cs h) (done-among-expected k e target key cs [])
 
   -- ---- finish and what follows, on areas that carry what the last call left; `a` are those left where there was no call
   module _ (cs : List BuilderCall) (carried : Carried k e r cs)
@@ -48,7 +48,7 @@ module _ (kind encoding width target : ℕ) (k : Kind) (e : Encoding) (column : 
 
     told : f ≡ finishDue built (blockOf k e rows) out
     unfolding finishedAfter
-    told = finish-after-any-calls kind encoding width target k e column r new cs carried a lent carries out
+    told = finish-after-any-calls kind encoding width target key k e column r new cs carried a lent carries out
 
     -- Finish is 0 exactly if the room holds the block of the rows accepted, and else 4.
     pub finished-exactly :
@@ -78,12 +78,12 @@ module _ (kind encoding width target : ℕ) (k : Kind) (e : Encoding) (column : 
   -- ---- the same on memory that stays, or is lengthened at its end before a call: nothing is asked of what it holds
   module _ (cs : List BuilderCall) (lengthened : Lengthened r cs) (a lent : Lent) (same-or-longer : SameOrLonger (afterAll r a cs .areas) lent) where
     carried-by-length : Carried k e r cs
-    carried-by-length = lengthened-is-carried kind encoding width target k e column r new cs lengthened
+    carried-by-length = lengthened-is-carried kind encoding width target key k e column r new cs lengthened
 
     carries-by-length : Carries k e (afterAll r a cs .builder .counted) (afterAll r a cs .areas) lent
     carries-by-length =
-        one-carried k e target (acceptedIn k e [] cs) (afterAll r a cs .builder) (afterAll r a cs .areas) lent
-        (agrees-after-any-calls kind encoding width target k e column r new cs carried-by-length a)
+        one-carried k e target key (acceptedIn k e [] cs) (afterAll r a cs .builder) (afterAll r a cs .areas) lent
+        (agrees-after-any-calls kind encoding width target key k e column r new cs carried-by-length a)
         same-or-longer
 
     pub whole-way-on-lengthened-memory : (out : List ℕ) → finishedAfter r a cs lent out .answer .number ≡ 0 → (ds : List ReaderCall)

@@ -50,13 +50,65 @@ fn grow<T: Clone + Default>(area: &mut Vec<T>, need: usize) -> Result<(), Refusa
     Ok(())
 }
 
+/// A target as the calls take it.
+fn bytes_of(target: u64) -> usize {
+    usize::try_from(target).unwrap_or(usize::MAX)
+}
+
 impl Builder {
     /// A builder with nothing appended. The target is the size in bytes that [`Builder::should_finish`] holds blocks to; no memory
-    /// is set aside for it.
+    /// is set aside for it. A dictionary's keys are held to the same target, apart from its entries. (They used to be held to 0, and a block
+    /// to be finished after each row: [`Builder::with_key_target`] goes on so if it is asked for 0.)
+    ///
+    /// A column that is cut where `should_finish` says so:
+    ///
+    /// ```
+    /// use idzulgar::{Builder, Column, Encoding, Kind, Refusal, Row};
+    ///
+    /// let mut builder = Builder::new(Column::new(Kind::I32, Encoding::Dictionary), 64)?;
+    /// let mut blocks = Vec::new();
+    /// for row in [Row::Int(1), Row::Int(2)].into_iter().cycle().take(40) {
+    ///     if builder.should_finish(row)? {
+    ///         blocks.push((builder.rows(), builder.finish()?));
+    ///         builder.restart()?;
+    ///     }
+    ///     builder.append(row)?;
+    /// }
+    /// blocks.push((builder.rows(), builder.finish()?));
+    /// // 16 keys have 64 bytes
+    /// assert_eq!(blocks.iter().map(|block| block.0).collect::<Vec<_>>(), [16, 16, 8]);
+    /// # Ok::<(), Refusal>(())
+    /// ```
     pub fn new(column: Column, target: u64) -> Result<Self, Refusal> {
         let (kind, encoding, width) = column.numbers();
-        let target = usize::try_from(target).unwrap_or(usize::MAX);
-        let answer = calls::create(kind, encoding, width, target);
+        Builder::created(column, calls::create(kind, encoding, width, bytes_of(target)))
+    }
+
+    /// The same with a target of its own for a dictionary's keys, of which each run takes 4 bytes. With 0 a dictionary is to be finished as
+    /// soon as it has a row. The other encodings don't look at it.
+    ///
+    /// ```
+    /// use idzulgar::{Builder, Column, Encoding, Kind, Refusal, Row};
+    ///
+    /// let mut builder = Builder::with_key_target(Column::new(Kind::I32, Encoding::Dictionary), 4096, 0)?;
+    /// assert_eq!(builder.should_finish(Row::Int(7)), Ok(false));
+    /// builder.append(Row::Int(7))?;
+    /// assert_eq!(builder.should_finish(Row::Int(7)), Ok(true));
+    ///
+    /// // in runs, which have no keys, the same rows go on
+    /// let mut builder = Builder::with_key_target(Column::new(Kind::I32, Encoding::RunLength), 4096, 0)?;
+    /// builder.append(Row::Int(7))?;
+    /// assert_eq!(builder.should_finish(Row::Int(7)), Ok(false));
+    /// # Ok::<(), Refusal>(())
+    /// ```
+    pub fn with_key_target(column: Column, target: u64, key_target: u64) -> Result<Self, Refusal> {
+        let (kind, encoding, width) = column.numbers();
+        let (target, key_target) = (bytes_of(target), bytes_of(key_target));
+        Builder::created(column, calls::create_with_key_target(kind, encoding, width, target, key_target))
+    }
+
+    /// The builder that creation answered, without memory.
+    fn created(column: Column, answer: calls::Creation) -> Result<Self, Refusal> {
         Refusal::check(answer.number)?;
         Ok(Builder {
             record: answer.builder,
@@ -70,10 +122,10 @@ impl Builder {
         })
     }
 
-    /// Begins the next block of the same column in the same memory.
+    /// Begins the next block of the same column in the same memory, with the same targets.
     pub fn restart(&mut self) -> Result<(), Refusal> {
-        let record = self.record;
-        let answer = calls::create(record.kind, record.encoding, record.width, record.target);
+        let BuilderRecord { kind, encoding, width, target, key_target, .. } = self.record;
+        let answer = calls::create_with_key_target(kind, encoding, width, target, key_target);
         Refusal::check(answer.number)?;
         self.record = answer.builder;
         Ok(())
@@ -149,7 +201,8 @@ impl Builder {
         Ok(())
     }
 
-    /// Whether to finish the block before a next row, by the target.
+    /// Whether to finish the block before a next row, by the target; of a dictionary also by the keys' target, which says the same of any
+    /// next row.
     pub fn should_finish(&self, next: Row<'_>) -> Result<bool, Refusal> {
         let (present, _, bytes) = parts(self.column.kind, next)?;
         let answer = calls::should_finish(self.record, present, bytes.len());

@@ -65,7 +65,7 @@ pub struct Left {
 }
 
 /// A builder's record: what creation was given, and what was appended so far. Any numbers can stand here; a record that
-/// contradicts itself or its areas is refused as 9.
+/// contradicts itself or its areas is refused as 9. Any number is a target, and any a key target.
 #[repr(C)]
 #[derive(Clone, Copy, Debug, PartialEq, Eq, Hash)]
 #[allow(missing_docs)]
@@ -74,6 +74,7 @@ pub struct BuilderRecord {
     pub encoding: usize,
     pub width: usize,
     pub target: usize,
+    pub key_target: usize,
     pub rows: usize,
     pub runs: usize,
     pub entries: usize,
@@ -206,6 +207,7 @@ extern "C" {
     ) -> Given;
     fn idz_remaining(reader: ReaderRecord) -> Left;
     fn idz_create(kind: usize, encoding: usize, width: usize, target: usize) -> Creation;
+    fn idz_create_with_key_target(kind: usize, encoding: usize, width: usize, target: usize, key_target: usize) -> Creation;
     fn idz_append(
         builder: BuilderRecord,
         items: *mut u8,
@@ -311,10 +313,16 @@ pub fn remaining(reader: ReaderRecord) -> Left {
     unsafe { idz_remaining(reader) }
 }
 
-/// A builder of a column, with nothing appended.
+/// A builder of a column, with nothing appended. Its key target is the target.
 pub fn create(kind: usize, encoding: usize, width: usize, target: usize) -> Creation {
     // SAFETY: see the head of this file.
     unsafe { idz_create(kind, encoding, width, target) }
+}
+
+/// The same with a key target of its own.
+pub fn create_with_key_target(kind: usize, encoding: usize, width: usize, target: usize, key_target: usize) -> Creation {
+    // SAFETY: see the head of this file.
+    unsafe { idz_create_with_key_target(kind, encoding, width, target, key_target) }
 }
 
 /// Appends one row: whether it is present, its integer for a fixed kind, its bytes for char, blob and string.

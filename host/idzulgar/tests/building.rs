@@ -6,16 +6,23 @@ use idzulgar::{Batch, Builder, Column, Encoding, Kind, Reader, Refusal, Row, Val
 use model::Chance;
 
 #[test]
-fn blocks_estimates_and_should_finish_are_those_of_document_01() {
+fn blocks_estimates_and_should_finish_are_those_of_documents_01_and_02() {
     let mut chance = Chance::new(11);
     for round in 0..11_000 {
         let column = model::column(round % model::PAIRS, 1 + chance.below(20));
         let rows = model::some_rows(column.kind, 60, &mut chance);
         let target = chance.below(300);
-        let mut builder = Builder::new(column, target).unwrap();
+        let (mut builder, key_target) = match chance.below(3) {
+            0 => (Builder::new(column, target).unwrap(), target),
+            at => {
+                let key_target = if at == 1 { chance.below(120) } else { some_key_target(&mut chance) };
+                (Builder::with_key_target(column, target, key_target).unwrap(), key_target)
+            }
+        };
         for (place, value) in rows.iter().enumerate() {
-            let full = model::should_finish(column, target as usize, &rows[..place], value);
-            assert_eq!(builder.should_finish(value.into()), Ok(full), "{column:?} {rows:?} at {place}, target {target}");
+            let full = model::should_finish(column, target as usize, key_target as usize, &rows[..place], value);
+            let asked = builder.should_finish(value.into());
+            assert_eq!(asked, Ok(full), "{column:?} {rows:?} at {place}, target {target}, key target {key_target}");
             builder.append(value.into()).unwrap();
         }
         assert_eq!(builder.rows(), rows.len() as u64);
@@ -26,6 +33,127 @@ fn blocks_estimates_and_should_finish_are_those_of_document_01() {
         let stored: Vec<Value> = rows.iter().map(|row| model::stored(column, row)).collect();
         let read: Result<Vec<Value>, Refusal> = Reader::open(column, rows.len() as u64, block).unwrap().rows().collect();
         assert_eq!(read, Ok(stored));
+    }
+}
+
+/// A key target: one that keys come to exactly, or nearly, or one of the least and the greatest.
+fn some_key_target(chance: &mut Chance) -> u64 {
+    match chance.below(4) {
+        0 => [0, 1, 4, u64::MAX][chance.below(4) as usize],
+        near => 4 * chance.below(30) + near + 2,
+    }
+}
+
+/// The blocks of some rows, each with its number of rows: before each row the builder is asked, and where it says so the block is finished
+/// and the next one begun.
+fn cut(mut builder: Builder, rows: &[Value]) -> Vec<(usize, Vec<u8>)> {
+    let mut blocks = Vec::new();
+    for row in rows {
+        if builder.should_finish(row.into()).unwrap() {
+            blocks.push((builder.rows() as usize, builder.finish().unwrap()));
+            builder.restart().unwrap();
+        }
+        builder.append(row.into()).unwrap();
+    }
+    if builder.rows() > 0 {
+        blocks.push((builder.rows() as usize, builder.finish().unwrap()));
+    }
+    blocks
+}
+
+/// The same by the model.
+fn cut_by_model(column: Column, target: usize, key_target: usize, mut rows: &[Value]) -> Vec<(usize, Vec<u8>)> {
+    let mut blocks = Vec::new();
+    while !rows.is_empty() {
+        let full = |len: &usize| model::should_finish(column, target, key_target, &rows[..*len], &rows[*len]);
+        let len = (1..rows.len()).find(full).unwrap_or(rows.len());
+        blocks.push((len, model::block_of(column, &rows[..len])));
+        rows = &rows[len..];
+    }
+    blocks
+}
+
+/// A dictionary of each kind in turn.
+fn dictionary(round: u64, width: u64) -> Column {
+    model::column(5 * round % model::PAIRS + 4, width)
+}
+
+#[test]
+fn the_importer_asks_for_key_target_0_and_gets_a_block_a_row() {
+    let mut chance = Chance::new(21);
+    for round in 0..1_200 {
+        let column = dictionary(round, 1 + chance.below(20));
+        let rows = model::some_rows(column.kind, 60, &mut chance);
+        let builder = Builder::with_key_target(column, chance.below(300), 0).unwrap();
+        let one_by_one: Vec<_> = rows.chunks(1).map(|row| (1, model::block_of(column, row))).collect();
+        assert_eq!(cut(builder, &rows), one_by_one, "{column:?} {rows:?}");
+    }
+}
+
+#[test]
+fn the_loader_gets_dictionary_blocks_up_to_the_target() {
+    let mut chance = Chance::new(22);
+    let (mut longer, mut by_keys) = (0, 0);
+    for round in 0..1_200 {
+        let column = dictionary(round, 1 + chance.below(20));
+        let rows = model::some_rows(column.kind, 60, &mut chance);
+        let target = chance.below(120) as usize;
+        let blocks = cut(Builder::new(column, target as u64).unwrap(), &rows);
+        assert_eq!(blocks, cut_by_model(column, target, target, &rows), "{column:?} {rows:?}, target {target}");
+        for (place, (len, block)) in blocks.iter().enumerate() {
+            // the keys, one at least, are held to the target
+            let keys = 4 * model::counts_of(column, block).len();
+            assert!(keys <= target.max(4), "{column:?} {rows:?}, target {target}");
+            longer += (*len > 1) as u32;
+            by_keys += (place + 1 < blocks.len() && keys + 4 > target && target >= 8) as u32;
+        }
+    }
+    assert!(longer > 1_000 && by_keys > 100, "{longer} blocks of more than one row, {by_keys} cut by their keys");
+}
+
+#[test]
+fn where_a_dictionary_is_cut() {
+    let column = Column::new(Kind::I32, Encoding::Dictionary);
+    let list = |two: [Value; 2]| -> Vec<Value> { two.into_iter().cycle().take(40).collect() };
+    let in_turn = list([Value::Int(1), Value::Int(2)]);
+    let with_nulls = list([Value::Int(7), Value::Null]);
+    let lens = |builder: Result<Builder, Refusal>, rows: &[Value]| {
+        cut(builder.unwrap(), rows).iter().map(|block| block.0).collect::<Vec<_>>()
+    };
+    // 4 bytes a run: 16 runs and one more are above 64
+    assert_eq!(lens(Builder::new(column, 64), &in_turn), [16, 16, 8]);
+    assert_eq!(lens(Builder::new(column, 64), &with_nulls), [16, 16, 8]);
+    for one_run in [[Value::Int(7), Value::Int(7)], [Value::Null, Value::Null]].map(list) {
+        assert_eq!(lens(Builder::new(column, 64), &one_run), [40]);
+        assert_eq!(lens(Builder::with_key_target(column, 64, 7), &one_run), [1; 40]);
+        assert_eq!(lens(Builder::with_key_target(column, 64, 8), &one_run), [40]);
+    }
+    for rows in [&in_turn, &with_nulls] {
+        assert_eq!(lens(Builder::with_key_target(column, 64, 0), rows), [1; 40]);
+        assert_eq!(lens(Builder::with_key_target(column, 64, 7), rows), [1; 40]);
+        assert_eq!(lens(Builder::with_key_target(column, 64, 8), rows), [2; 20]);
+        assert_eq!(lens(Builder::with_key_target(column, 64, u64::MAX), rows), [40]);
+        // a target of 0 is a key target of 0
+        assert_eq!(lens(Builder::new(column, 0), rows), [1; 40]);
+    }
+    // the entries are held to the target, whatever the keys are held to
+    assert_eq!(lens(Builder::with_key_target(column, 8, u64::MAX), &in_turn), [2; 20]);
+    assert_eq!(Builder::with_key_target(Column::new(Kind::Char(0), Encoding::Dictionary), 0, 0).unwrap_err(), Refusal::Column);
+}
+
+#[test]
+fn without_keys_no_key_target_says_anything() {
+    let mut chance = Chance::new(23);
+    for round in 0..1_200 {
+        let column = model::column(round % (model::PAIRS / 5 * 4) / 4 * 5 + round % 4, 1 + chance.below(20));
+        assert_ne!(column.encoding, Encoding::Dictionary);
+        let rows = model::some_rows(column.kind, 60, &mut chance);
+        let target = chance.below(300);
+        let blocks = cut(Builder::new(column, target).unwrap(), &rows);
+        for key_target in [0, some_key_target(&mut chance)] {
+            let builder = Builder::with_key_target(column, target, key_target).unwrap();
+            assert_eq!(cut(builder, &rows), blocks, "{column:?} {rows:?}, target {target}, key target {key_target}");
+        }
     }
 }
 
@@ -136,6 +264,20 @@ fn a_builder_can_go_on_after_finishing_and_start_again() {
     assert_eq!(builder.finish(), Ok(Vec::new()));
     builder.append(Row::Int(7)).unwrap();
     assert_eq!(builder.finish(), Ok(first));
+
+    // with the key target that it had, and the target
+    let column = Column::new(Kind::I32, Encoding::Dictionary);
+    for (target, key_target, key, entry) in [(4096, 0, true, false), (0, 4096, false, true), (4096, 4096, false, false)] {
+        let mut builder = Builder::with_key_target(column, target, key_target).unwrap();
+        for _ in 0..3 {
+            assert_eq!(builder.should_finish(Row::Null), Ok(false));
+            builder.append(Row::Null).unwrap();
+            assert_eq!(builder.should_finish(Row::Null), Ok(key));
+            builder.append(Row::Int(7)).unwrap();
+            assert_eq!(builder.should_finish(Row::Null), Ok(key || entry));
+            builder.restart().unwrap();
+        }
+    }
 }
 
 #[test]
@@ -151,6 +293,7 @@ fn forged_records_and_changed_areas_get_an_answer_and_a_refusal_writes_nothing()
             encoding,
             width,
             target: small(),
+            key_target: small(),
             rows: small(),
             runs: small(),
             entries: small(),
@@ -186,6 +329,14 @@ fn forged_records_and_changed_areas_get_an_answer_and_a_refusal_writes_nothing()
         let (estimated, asked) = (calls::estimate(record), calls::should_finish(record, true, 1));
         assert!([0, 9].contains(&estimated.number) && [0, 9].contains(&asked.number));
         assert_eq!((finished.builder, estimated.builder, asked.builder), (answer.builder, record, record));
+        // any number is a key target, and none but a dictionary looks at it
+        for key_target in [0, usize::MAX, chance.below(40) as usize] {
+            let other = calls::should_finish(BuilderRecord { key_target, ..record }, true, 1);
+            assert_eq!(other.number, asked.number);
+            let keys = asked.number == 0 && encoding == 4 && record.runs > 0 && 4 * record.runs + 4 > key_target;
+            let without = calls::should_finish(BuilderRecord { key_target: usize::MAX, ..record }, true, 1).full;
+            assert_eq!(other.full, without || keys, "{record:?}");
+        }
     }
     for number in [0, 2, 4, 9] {
         assert!(seen[number] > 100, "{number} was seen {} times", seen[number]);

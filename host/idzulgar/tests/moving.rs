@@ -101,7 +101,7 @@ fn unfit(kind: Kind, chance: &mut Chance) -> Option<Value> {
 /// Finish, estimate and should_finish say what the accepted rows say, and hand the builder back.
 fn ask(
     column: Column,
-    target: usize,
+    (target, key_target): (usize, usize),
     record: BuilderRecord,
     memory: &Memory,
     accepted: &[Value],
@@ -126,7 +126,7 @@ fn ask(
     let (present, _, bytes) = parts(next);
     let asked = calls::should_finish(record, present, bytes.len());
     assert_eq!((asked.number, asked.builder), (0, record));
-    assert_eq!(asked.full, model::should_finish(column, target, accepted, next));
+    assert_eq!(asked.full, model::should_finish(column, target, key_target, accepted, next));
 }
 
 #[test]
@@ -138,13 +138,20 @@ fn calls_on_memory_that_starts_empty_and_is_another_at_each_call() {
         let (kind, encoding, width) = column.numbers();
         let rows = model::some_rows(column.kind, 40, &mut chance);
         let target = chance.below(300) as usize;
-        let mut record = calls::create(kind, encoding, width, target).builder;
+        let (creation, key_target) = if chance.one_in(2) {
+            (calls::create(kind, encoding, width, target), target)
+        } else {
+            let key_target = chance.below(80) as usize;
+            (calls::create_with_key_target(kind, encoding, width, target, key_target), key_target)
+        };
+        let targets = (target, key_target);
+        let mut record = creation.builder;
         let mut memory = Memory::none();
         let mut accepted: Vec<Value> = vec![];
         for value in &rows {
             let few = std::array::from_fn(|_| chance.below(3) as usize);
             memory = memory.moved(column, &record, few, &mut chance);
-            ask(column, target, record, &memory, &accepted, value, &mut chance);
+            ask(column, targets, record, &memory, &accepted, value, &mut chance);
             let unfit = unfit(column.kind, &mut chance);
             if let Some(bad) = unfit.filter(|_| chance.one_in(4)) {
                 let before = memory.clone();
@@ -174,7 +181,7 @@ fn calls_on_memory_that_starts_empty_and_is_another_at_each_call() {
             record = answer.builder;
             accepted.push(value.clone());
         }
-        ask(column, target, record, &memory, &accepted, &Value::Null, &mut chance);
+        ask(column, targets, record, &memory, &accepted, &Value::Null, &mut chance);
         assert_eq!(accepted, rows);
     }
     assert!(at_once > 1_000 && second > 1_000 && refused > 1_000, "{at_once} {second} {refused}");

@@ -671,8 +671,9 @@ pub fn estimate(column: Column, rows: &[Value]) -> usize {
     }
 }
 
-/// Whether to finish before a next row.
-pub fn should_finish(column: Column, target: usize, rows: &[Value], next: &Value) -> bool {
+/// Whether to finish before a next row. A dictionary's keys, 4 bytes a run, have a target of their own, and the next row isn't looked at
+/// for them.
+pub fn should_finish(column: Column, target: usize, key_target: usize, rows: &[Value], next: &Value) -> bool {
     let kind = column.kind;
     let stored = stored_rows(column, rows);
     let bytes: usize = stored.iter().map(|row| item(kind, row).len()).sum();
@@ -683,5 +684,6 @@ pub fn should_finish(column: Column, target: usize, rows: &[Value], next: &Value
     };
     let flag = matches!(column.encoding, Encoding::Nullable | Encoding::RunLengthNullable) as usize;
     let plain = bytes > 0 && plain_of(kind, &stored).len() + next + flag > target;
-    plain || column.encoding == Encoding::Dictionary && !rows.is_empty()
+    let keys = 4 * first_of_runs(rows).len();
+    plain || column.encoding == Encoding::Dictionary && keys > 0 && keys + 4 > key_target
 }

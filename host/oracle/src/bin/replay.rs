@@ -4,7 +4,8 @@
 //!
 //! Writes FOLDER/stdin, the commands as crates/try_replay/src/main.rt takes them, and FOLDER/stdout, what the original answers: before each
 //! row and after the last whether to finish and the estimated size, the block, and the rows that reads give: a skip and then a batch, where
-//! the port has one call. Nothing of the port is run here. Where the original panics nothing is stored.
+//! the port has one call. Behind those are lists that the original cuts into blocks where its `should_finish` says so, as the importer
+//! does. Nothing of the port is run here. Where the original panics nothing is stored.
 use std::fmt::Write;
 
 use idzulgar::{Column, Encoding, Kind, Value};
@@ -15,6 +16,10 @@ use oracle::{caught, padded};
 /// The rows that a read of the program has room for, and the bytes of a block and of the rows that it gives.
 const MOST_ROWS: u64 = 300;
 const MOST_BYTES: usize = 4000;
+
+/// The lists that are cut into blocks, and the bytes of the rows of each: a row of a dictionary comes to a block of its own.
+const LISTS: u64 = 300;
+const MOST_CUT: usize = 100;
 
 #[derive(Default)]
 struct Script {
@@ -78,27 +83,37 @@ impl Script {
         self.number(0);
     }
 
+    /// Rows that are equal: how many, and one of them.
+    fn equal(&mut self, rows: &[Value]) {
+        self.number(rows.len() as u64);
+        match &rows[0] {
+            Value::Null => self.commands.extend([0, 0, 0]),
+            Value::Int(value) => self.fixed(*value as u64),
+            Value::F64(value) => self.fixed(value.to_bits()),
+            Value::Bytes(bytes) => {
+                self.commands.extend([1, 0]);
+                self.bytes(bytes);
+            }
+        }
+    }
+
+    /// What a builder is made by.
+    fn plan(&mut self, column: Column, target: usize) {
+        self.column(column);
+        self.number(target as u64);
+        self.say(format_args!(" {target:x}\n"));
+    }
+
     /// The commands that build rows, of which equal ones are one command, and the answers.
     fn build(&mut self, column: Column, target: usize, rows: &[Value]) -> Vec<u8> {
         let built = oracle::build(column, target, rows);
         self.number(0);
         self.say(format_args!("column"));
-        self.column(column);
-        self.number(target as u64);
-        self.say(format_args!(" {target:x}\n"));
+        self.plan(column, target);
         let mut place = 0;
         for equal in rows.chunk_by(|a, b| a == b) {
             self.number(1);
-            self.number(equal.len() as u64);
-            match &equal[0] {
-                Value::Null => self.commands.extend([0, 0, 0]),
-                Value::Int(value) => self.fixed(*value as u64),
-                Value::F64(value) => self.fixed(value.to_bits()),
-                Value::Bytes(bytes) => {
-                    self.commands.extend([1, 0]);
-                    self.bytes(bytes);
-                }
-            }
+            self.equal(equal);
             self.say(format_args!("row"));
             for _ in equal {
                 self.say(format_args!(" {} {:x}", built.full[place] as u8, built.estimates[place]));
@@ -113,6 +128,24 @@ impl Script {
         self.blocks += 1;
         self.rows += rows.len();
         built.block
+    }
+
+    /// The command that cuts rows into blocks, and the blocks, each behind the number of its rows.
+    fn cut(&mut self, column: Column, target: usize, rows: &[Value]) {
+        self.number(6);
+        self.say(format_args!("list"));
+        self.plan(column, target);
+        self.number(rows.len() as u64);
+        for equal in rows.chunk_by(|a, b| a == b) {
+            self.equal(equal);
+        }
+        for (n, block) in oracle::cut(column, target, rows) {
+            self.say(format_args!("cut {n:x} "));
+            self.say_bytes(&block);
+            self.say(format_args!("\n"));
+            self.blocks += 1;
+        }
+        self.rows += rows.len();
     }
 
     /// A block that no builder makes.
@@ -190,6 +223,36 @@ fn fits(kind: Kind, row: &Value) -> bool {
     }
 }
 
+/// The rows of a small alphabet that a kind has.
+fn letters_of(kind: Kind) -> Vec<Value> {
+    alphabet(kind).into_iter().filter(|row| fits(kind, row)).collect()
+}
+
+/// A list over letters, of one row at least.
+fn some_letters(letters: &[Value], most: u64, chance: &mut Chance) -> Vec<Value> {
+    (0..1 + chance.below(most)).map(|_| letters[chance.below(letters.len() as u64) as usize].clone()).collect()
+}
+
+/// Lists of every kind, two in three for dictionaries, the others for the other encodings in turn: over letters, or by chance.
+fn cut_lists(script: &mut Script, chance: &mut Chance) {
+    let kinds = model::PAIRS / 5;
+    for round in 0..LISTS {
+        let (kind, turn) = (round % kinds, round / kinds);
+        let encoding = if turn % 3 == 2 { turn / 3 % 4 } else { 4 };
+        let column = model::column(5 * kind + encoding, 1 + chance.below(8));
+        let most = if column.encoding == Encoding::Dictionary { 10 } else { 24 };
+        let target = if chance.one_in(6) { chance.below(5000) } else { chance.below(50) } as usize;
+        let mut rows = some_letters(&letters_of(column.kind), most, chance);
+        if chance.one_in(2) {
+            rows = judged_rows(column.kind, most, chance);
+        }
+        while weight(&rows) > MOST_CUT {
+            rows.pop();
+        }
+        script.cut(column, target, &rows);
+    }
+}
+
 fn main() {
     oracle::quiet();
     let words: Vec<String> = std::env::args().skip(1).collect();
@@ -200,11 +263,11 @@ fn main() {
     for pair in 0..model::PAIRS {
         for round in 0..24 {
             let column = model::column(pair, if chance.one_in(12) { 9 + chance.below(40) } else { 1 + chance.below(8) });
-            let letters: Vec<Value> = alphabet(column.kind).into_iter().filter(|row| fits(column.kind, row)).collect();
+            let letters = letters_of(column.kind);
             // short lists over few letters; lists by chance; one with a long run; sound blocks that no builder makes
             let rows = match round {
                 0 => vec![],
-                1..=8 => (0..1 + chance.below(6)).map(|_| letters[chance.below(letters.len() as u64) as usize].clone()).collect(),
+                1..=8 => some_letters(&letters, 6, &mut chance),
                 9..=18 => judged_rows(column.kind, 14, &mut chance),
                 19 => {
                     let mut rows = vec![letters[1].clone(); 120 + chance.below(12) as usize];
@@ -230,6 +293,8 @@ fn main() {
             }
         }
     }
+    // by a chance of their own: what stands before them is as it would be without them
+    cut_lists(&mut script, &mut Chance::new(!seed));
     std::fs::write(format!("{folder}/stdin"), &script.commands).expect("stdin is written");
     std::fs::write(format!("{folder}/stdout"), &script.answers).expect("stdout is written");
     println!(
