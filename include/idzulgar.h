@@ -198,13 +198,42 @@ idz_creation idz_create(size_t kind, size_t encoding, size_t width, size_t targe
  *     idz_creation creation = idz_create_with_key_target(IDZ_I32, IDZ_DICTIONARY, 0, 4096, 0); */
 idz_creation idz_create_with_key_target(size_t kind, size_t encoding, size_t width, size_t target, size_t key_target);
 
-/* Appends one row: `present` is 0 for a null; a fixed kind takes `value`, char and blob take `item`. Needs, this row counted in: the item
- * bytes stored; a slot of `ends` a blob item; a byte of `flags` per eight items (encodings 1 and 3); a slot of `counts` a run; a
- * slot of `keys` a key run; a byte of `lens` a char item. Refuses 9, 2, 3, 4 in this order; 4 exactly when an area is below its
- * need. Of char and string `item` has to be text, whole; items that the areas hold aren't tested again. */
-idz_appended idz_append(idz_builder builder, uint8_t *items, size_t items_len, uint32_t *ends, size_t ends_len, uint8_t *flags,
-                        size_t flags_len, uint32_t *counts, size_t counts_len, int32_t *keys, size_t keys_len, uint8_t *lens,
-                        size_t lens_len, uint8_t present, int64_t value, const uint8_t *item, size_t item_len);
+/* Appends one row `times` times, all or none: `present` is 0 for a null; a fixed kind takes `value`, char and blob take `item`. Record and
+ * areas come out as by so many calls of idz_append: a run is full at 4,294,967,295 rows, and behind it the next begins, for which encodings
+ * 2 and 3 store the item again; a dictionary has the key again, and the entry once. Needs, all these rows counted in: the item bytes
+ * stored; a slot of `ends` a blob item; a byte of `flags` per eight items (encodings 1 and 3); a slot of `counts` a run; a slot of `keys` a
+ * key run; a byte of `lens` a char item.
+ *
+ * Of a loan, 360 equal payments, in a run-length column of i64:
+ *
+ *     idz_appended appended = idz_append_times(builder, items, items_len, NULL, 0, NULL, 0, counts, counts_len, NULL, 0, NULL, 0, 1, 89123,
+ *                                              NULL, 0, 360);
+ *     if (appended.number != IDZ_DONE) return appended.number;
+ *     builder = appended.builder;
+ *
+ * Refuses in this order: 9 for the record, the areas and the fields, as for one row; 2 if the row doesn't fit; 3 if the block passes a
+ * limit with all these rows; 4 exactly when an area is below its need. So it is 3 also where single appends would meet 4 first. If `times`
+ * is 0, a call that is neither 9 nor 2 is done, and record and areas stay as they are. Of char and string `item` has to be text, whole;
+ * items that the areas hold aren't tested again.
+ *
+ * idz_should_finish asks of one next row: where it says no and n rows are then appended at once, a block of encodings 0 and 1 can pass its
+ * target by n - 1 items.
+ *
+ * It takes a step for each run that gets rows (in encodings 0 and 1 for each row), however many they are: 281,474,976,710,655 equal rows are
+ * 65,537 runs. */
+idz_appended idz_append_times(idz_builder builder, uint8_t *items, size_t items_len, uint32_t *ends, size_t ends_len, uint8_t *flags,
+                              size_t flags_len, uint32_t *counts, size_t counts_len, int32_t *keys, size_t keys_len, uint8_t *lens,
+                              size_t lens_len, uint8_t present, int64_t value, const uint8_t *item, size_t item_len, size_t times);
+
+/* Appends one row: the call above with 1, which callers that aren't C or C++ make themselves. It was a call of the library's own and isn't
+ * any more: object code made with an older header fails to link, so compile it anew. No record grew, and IDZ_VERSION stays. */
+static inline idz_appended idz_append(idz_builder builder, uint8_t *items, size_t items_len, uint32_t *ends, size_t ends_len,
+                                      uint8_t *flags, size_t flags_len, uint32_t *counts, size_t counts_len, int32_t *keys,
+                                      size_t keys_len, uint8_t *lens, size_t lens_len, uint8_t present, int64_t value,
+                                      const uint8_t *item, size_t item_len) {
+    return idz_append_times(builder, items, items_len, ends, ends_len, flags, flags_len, counts, counts_len, keys, keys_len, lens, lens_len,
+                            present, value, item, item_len, 1);
+}
 
 /* Writes the block that the areas hold to `out`, and answers its length. Refuses 9, 4. It can be called again, and append can go on. */
 idz_finished idz_finish(idz_builder builder, const uint8_t *items, size_t items_len, const uint32_t *ends, size_t ends_len,

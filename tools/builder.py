@@ -1,5 +1,5 @@
-"""A second reading of document 01, "Building" and "Sizes", with the key target of document 02 (ii), in Python, made apart from the
-definitions under crates/builder/specs.
+"""A second reading of document 01, "Building" and "Sizes", with the key target of document 02 (ii) and the equal rows of (v), in
+Python, made apart from the definitions under crates/builder/specs.
 
 It says of every call what it answers and what the lent areas then hold, for any record and any memory. A record is a dictionary of
 FIELDS; the areas are a dictionary of AREAS, of each of which the first cells are lent, as many as `lent` says. tools/building.py
@@ -147,54 +147,134 @@ def grown(r, row, size, new, joins):
     return s
 
 
+def found(r, a, row, find):
+    """Whether the row's item is stored, whether the row joins the last run, and its key."""
+    e, runs = r["encoding"], r["runs"]
+    open_run = runs > 0 and r["last"] < MOST_RUN
+    if e in (2, 3):
+        joins = False
+        if runs:
+            before = held(r, a, runs - 1)
+            if r["null"]:
+                before = None
+            joins = open_run and (row is None) == (before is None) and row == before
+        return not joins, joins, 0
+    if e == 4:
+        if row is None:
+            new, key = False, NULL_KEY
+        else:
+            i = find(r, a, row)
+            new, key = i == r["entries"], NULL_KEY + 1 + i
+        return new, open_run and a["keys"][runs - 1] == key, key
+    return True, False, 0
+
+
+def store(r, a, row, item, n):
+    """The item n times, behind the others."""
+    first = stored(r)
+    a["items"][r["bytes"]:r["bytes"] + n * len(item)] = item * n
+    for i in range(first, first + n):
+        if r["kind"] in BY_ENDS:
+            a["ends"][i] = r["bytes"] + (i + 1 - first) * len(item)
+        if r["kind"] == CHAR:
+            a["lens"][i] = len(row or b"")
+        if r["encoding"] in (1, 3):
+            byte = 0 if i % 8 == 0 else a["flags"][i // 8]
+            bit = 1 << i % 8
+            a["flags"][i // 8] = byte & ~bit | (bit if row is not None else 0)
+
+
 def append(r, a, lent, present, value, data, find=entry_of):
     """The number and the record; where it is 0 the areas are changed."""
     if record_wrong(r) or too_short(r, lent):
         return 9, r
     row = row_of(r, present, value, data)
     e, runs = r["encoding"], r["runs"]
-    open_run = runs > 0 and r["last"] < MOST_RUN
-    new, joins, key = True, False, 0
     try:
-        if e in (2, 3):
-            if runs:
-                before = held(r, a, runs - 1)
-                if r["null"]:
-                    before = None
-                joins = open_run and (row is None) == (before is None) and row == before
-            new = not joins
-        if e == 4:
-            if row is None:
-                new, key = False, NULL_KEY
-            else:
-                i = find(r, a, row)
-                new, key = i == r["entries"], NULL_KEY + 1 + i
-            joins = open_run and a["keys"][runs - 1] == key
+        new, joins, key = found(r, a, row, find)
     except Nine:
         return 9, r
     if not fits(r, row):
         return 2, r
-    i, item = stored(r), model.item(r["kind"], r["width"], row)
+    item = model.item(r["kind"], r["width"], row)
     s = grown(r, row, len(item), new, joins)
     if past(s):
         return 3, r
     if too_short(s, lent):
         return 4, r
     if new:
-        a["items"][r["bytes"]:r["bytes"] + len(item)] = item
-        if r["kind"] in BY_ENDS:
-            a["ends"][i] = s["bytes"]
-        if r["kind"] == CHAR:
-            a["lens"][i] = len(row or b"")
-        if e in (1, 3):
-            byte = 0 if i % 8 == 0 else a["flags"][i // 8]
-            bit = 1 << i % 8
-            a["flags"][i // 8] = byte & ~bit | (bit if row is not None else 0)
+        store(r, a, row, item, 1)
     if e >= 2:
         a["counts"][s["runs"] - 1] = s["last"]
         if e == 4 and not joins:
             a["keys"][runs] = key
     return 0, s
+
+
+# ---- append of one row so many times: by runs, never by rows
+
+def split(r, times, joins):
+    """How many of the rows join the last run, how many full runs come behind it, and the rows of a last run that isn't full."""
+    joining = min(times, MOST_RUN - r["last"]) if joins else 0
+    return joining, *divmod(times - joining, MOST_RUN)
+
+
+def more_items(r, times, new, joins):
+    """How many items are stored."""
+    _, full, rest = split(r, times, joins)
+    return (times, times, full + (rest > 0), full + (rest > 0), int(new and times > 0))[r["encoding"]]
+
+
+def grown_times(r, row, size, times, new, joins):
+    """The record with all the rows counted in."""
+    s = dict(r)
+    s["rows"] += times
+    s["bytes"] += size * more_items(r, times, new, joins)
+    if r["encoding"] < 2 or times == 0:
+        return s
+    if r["encoding"] == 4:
+        s["entries"] += more_items(r, times, new, joins)
+    joining, full, rest = split(r, times, joins)
+    s["null"] = int(row is None)
+    s["runs"] += full + (rest > 0)
+    if joining:
+        s["counts"] += len(spell(r["last"] + joining)) - len(spell(r["last"]))
+    s["counts"] += full * len(spell(MOST_RUN)) + (len(spell(rest)) if rest else 0)
+    s["last"] = rest or (MOST_RUN if full else r["last"] + joining)
+    return s
+
+
+def append_times(r, a, lent, times, present, value, data, find=entry_of):
+    """All the rows or none: the number and the record; where it is 0 the areas are changed."""
+    if record_wrong(r) or too_short(r, lent):
+        return 9, r
+    row = row_of(r, present, value, data)
+    try:
+        new, joins, key = found(r, a, row, find)
+    except Nine:
+        return 9, r
+    if not fits(r, row):
+        return 2, r
+    item = model.item(r["kind"], r["width"], row)
+    s = grown_times(r, row, len(item), times, new, joins)
+    if past(s):
+        return 3, r
+    if too_short(s, lent):
+        return 4, r
+    store(r, a, row, item, more_items(r, times, new, joins))
+    if r["encoding"] >= 2:
+        store_runs(r, a, key, *split(r, times, joins))
+    return 0, s
+
+
+def store_runs(r, a, key, joining, full, rest):
+    """The last run's count, if rows joined it, and the runs behind it."""
+    if joining:
+        a["counts"][r["runs"] - 1] = r["last"] + joining
+    for i, count in enumerate([MOST_RUN] * full + [rest] * (rest > 0)):
+        a["counts"][r["runs"] + i] = count
+        if r["encoding"] == 4:
+            a["keys"][r["runs"] + i] = key
 
 
 # ---- finish

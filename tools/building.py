@@ -4,13 +4,15 @@
 
 The answers are those of tools/builder.py; crates/try_building/src/main.rt says what a command is. With no arguments the files are always
 the same; with another seed the random commands are others, and the two files go to the folder, for all sections below or for those
-that are named (`rt try` takes 10,000,000 steps of its interpreter and a megabyte of answers at most: samples, counts, order). Where
-document 01 says which number a call answers, the call expects it here, and a model that answers another stops the run. A list that
-only calls made is held, when it is finished, to the block of its rows by tools/model.py, and the document's samples to its own bytes.
+that are named (`rt try` takes 10,000,000 steps of its interpreter and a megabyte of answers at most: samples, counts, order, no_rows).
+Where document 01 says which number a call answers, the call expects it here, and a model that answers another stops the run. A list
+that only calls made is held, when it is finished, to the block of its rows by tools/model.py, and the document's samples to its own
+bytes. A row that one call appends a few times is held to that many calls.
 
-Not tried, for want of room (a process has a stack of eight megabytes): a row refused as 3 because its block without runs would pass
-16,777,216 bytes, 1,048,576 blob or char items, and 1,048,576 key runs. The limits themselves are tried there by estimate and
-should_finish, which use the record alone, and on blocks of runs by the counts' byte length, which has no area.
+Not tried, for want of room (a process has a stack of eight megabytes): a single row refused as 3 because its block without runs would
+pass 16,777,216 bytes, 1,048,576 blob or char items, and 1,048,576 key runs. The limits themselves are tried there by estimate and
+should_finish, which use the record alone, by rows so many times, for which 3 comes before 4, and on blocks of runs by the counts' byte
+length, which has no area.
 """
 import array
 import collections
@@ -26,12 +28,13 @@ from builder import AREAS, FIELDS, MOST_BYTES, MOST_ENTRIES, MOST_ITEMS, MOST_RO
 from model import BLOB, BY_ENDS, CHAR, F64, FIXED, KINDS, MOST_RUN, NULL_KEY, STRING, Refused
 
 SEED = 1
-INPUT = 300000  # bytes of the program's room for the commands
+INPUT = 500000  # bytes of the program's room for the commands
 CELLS = {"items": 1048640, "ends": 65600, "flags": 131080, "counts": 1048580, "keys": 65600, "lens": 65600, "room": 1180000}
 TYPES = {"ends": "I", "counts": "I", "keys": "i"}
 PLACES = (*AREAS, "room")
 NO_BUILDER = dict.fromkeys(FIELDS, 0) | {"kind": 255}
 NEAR = 100  # the cells that are kept and put back
+FEW = 40  # up to so many rows by one call are held to that many calls, where the areas are short
 I64, DATE, INTERVAL = 3, 4, 7
 
 
@@ -96,20 +99,16 @@ class Script:
             self.rows.append(builder.row_of(before, present, value, data))
         return refusal
 
-    def append_answer(self, refusal, rows, expect):
+    def append_answer(self, refusal, rows, expect, call="append"):
         self.answer("append", refusal, rows, *self.record())
         if self.shows > (refusal == 0):
             self.cells_answer()
-        self.count("append", refusal, expect)
+        self.count(call, refusal, expect)
         return refusal
 
     def append(self, row=None, value=0, data=b"", expect=0):
         """A row as it is; of a null also an integer or bytes that come with it, and of a row what its kind doesn't read."""
-        present = row is not None
-        if isinstance(row, int):
-            value = row
-        elif present:
-            data = row
+        present, value, data = told(row, value, data)
         self.command(1, int(present), value % 2**64, len(data))
         self.commands += data
         return self.append_answer(*self.one(present, value, data), expect)
@@ -117,6 +116,38 @@ class Script:
     def one(self, present, value, data):
         refusal = self.play(present, value, data)
         return refusal, int(refusal == 0)
+
+    def times(self, times, row=None, value=0, data=b"", expect=0):
+        """A row so many times, by one call."""
+        present, value, data = told(row, value, data)
+        self.command(13, times, int(present), value % 2**64, len(data))
+        self.commands += data
+        refusal = self.play_times(times, present, value, data)
+        return self.append_answer(refusal, 0 if refusal else times, expect, "times")
+
+    def play_times(self, times, present, value, data):
+        before, singly = self.r, None
+        few = 0 < times <= FEW and max(self.lent.values()) <= 2 * NEAR
+        if few:
+            singly = self.singly(times, present, value, data)
+        refusal, self.r = builder.append_times(self.r, self.a, self.lent, times, present, value, data)
+        if few:
+            assert singly == (None if refusal else (self.r, self.near()))
+        if refusal == 0 and self.rows is not None:
+            self.rows = self.rows + [builder.row_of(before, present, value, data)] * times if times <= 5000 else None
+        return refusal
+
+    def near(self):
+        return {x: self.a[x][:2 * NEAR] for x in AREAS}
+
+    def singly(self, times, present, value, data):
+        """The record and the cells after so many calls, or None if one of them is refused."""
+        r, a = self.r, self.near()
+        for _ in range(times):
+            refusal, r = builder.append(r, a, self.lent, present, value, data)
+            if refusal:
+                return None
+        return r, a
 
     def many(self, times, presence=1, start=0, step=0, period=0, source=0, size=0, data=b"", expect=0, find=None):
         """Rows until one is refused."""
@@ -240,9 +271,19 @@ class Script:
         need = self.next_needs(row)
         self.lend(**{x: max(0, need[x] + more.get(x, 0)) for x in AREAS})
 
+    def lend_times(self, times, row, **more):
+        """Lends what the record will need with a row so many times more."""
+        need = self.times_needs(times, row)
+        self.lend(**{x: max(0, need[x] + more.get(x, 0)) for x in AREAS})
+
+    def times_needs(self, times, row):
+        new, joins, _ = builder.found(self.r, self.a, row, builder.entry_of)
+        size = len(model.item(self.r["kind"], self.r["width"], row))
+        return builder.needs(builder.grown_times(self.r, row, size, times, new, joins))
+
     def next_needs(self, row):
         roomy = dict.fromkeys(AREAS, MOST)
-        present, value, data = (False, 0, b"") if row is None else (True, row, b"") if isinstance(row, int) else (True, 0, row)
+        present, value, data = told(row)
         refusal, after = builder.append(self.r, {x: self.a[x][:2 * NEAR + len(data)] for x in AREAS}, roomy, present, value, data)
         assert refusal == 0
         return builder.needs(after)
@@ -316,6 +357,13 @@ class Script:
 
 
 # ---- rows
+
+def told(row, value=0, data=b""):
+    """A row as the calls take it: whether it is present, its integer, its bytes."""
+    if row is None:
+        return False, value, data
+    return (True, row, data) if isinstance(row, int) else (True, value, row)
+
 
 def some_rows(kind, encoding, width):
     """Eight rows: some of the kind's limits, others in each encoding, with nulls, equal neighbours and one that comes again."""
@@ -1338,10 +1386,9 @@ def by_chance(s):
             forge(s)
 
 
-def forge(s):
-    """A state with some of it overwritten, and every call on it."""
+def alter(s):
+    """Some of a state overwritten."""
     pick = s.random.choice
-    kept = s.keep()
     for _ in range(pick((1, 1, 2))):
         what = s.random.randrange(6)
         if what <= 1:
@@ -1359,6 +1406,12 @@ def forge(s):
             s.set(counts=max(0, left), last=pick((1, 126, 127, 128, 16383, 2097151, 268435455, 2**32 - 2, 2**32 - 1)))
         else:
             s.set(last=pick((s.r["last"], 127, 2**32 - 2, 2**32 - 1)))
+
+
+def forge(s):
+    """A state with some of it overwritten, and every call on it."""
+    kept = s.keep()
+    alter(s)
     kind = s.r["kind"] if s.r["kind"] in FIXED else BLOB
     s.all_calls(any_row(s, kind, s.r["width"], True))
     # a row that is there, if it can be told
@@ -1371,9 +1424,465 @@ def forge(s):
     s.back(kept)
 
 
+# ---- a row so many times, by one call
+
+SPLITS = ((3,), (0, 3), (1, 2), (2, 1), (3, 0))
+
+
+def splits(s):
+    """Three equal rows, by one call, by two in every way and by three calls of append, come to the same: every pair, for a row that
+    joins the last one, also where that fills its run, and for another or a null."""
+    s.dirty()
+    for kind, encoding, width in pairs():
+        first, _, _, other, *_ = some_rows(kind, encoding, width)
+        for row in (first, None) if (kind + encoding) % 2 else (other, first):
+            found = []
+            for calls in (*SPLITS, None):
+                s.create(kind, encoding, width)
+                s.lend_next(first)
+                s.append(first)
+                if encoding >= 2 and kind % 2:
+                    s.set(last=MOST_RUN - 2)
+                s.lend_times(3, row)
+                for n in calls or ():
+                    s.times(n, row)
+                if calls is None:
+                    for _ in range(3):
+                        s.append(row)
+                s.show()
+                need = builder.needs(s.r)
+                found.append((s.r, {x: s.a[x][:need[x]] for x in AREAS}))
+            assert found.count(found[0]) == len(found)
+        s.finish()
+
+
+def all_or_none(s):
+    """Areas that are one short for the last of the rows: 4, and nothing is written; then they just hold them. Rows that join, that
+    begin a run, and that fill runs."""
+    most = 2 * MOST_RUN
+    for kind, encoding, width in bases():
+        s.dirty()
+        rows = some_rows(kind, encoding, width)
+        s.build(kind, encoding, width, rows[:4])
+        kept = s.keep()
+        cases = [(3, 1, rows[3]), (3, 1, None), (9, 1, rows[5])]
+        if encoding >= 2:
+            cases += [(most, MOST_RUN - 1, rows[3]), (most, 7, rows[5])]
+        for n, last, row in cases:
+            if encoding >= 2:
+                s.set(last=last)
+            need, after = builder.needs(s.r), s.times_needs(n, row)
+            for x in AREAS:
+                if after[x] > need[x]:
+                    s.lend(**after | {x: after[x] - 1})
+                    s.times(n, row, expect=4)
+                    s.times(0, row)
+            s.lend(**after)
+            s.times(n, row)
+            s.show()
+            s.finish()
+            s.back(kept)
+
+
+def filled_runs(s):
+    """Rows join the last run while it is below 4,294,967,295; full runs come behind it, and the rest. An item is stored again with each
+    run, an entry once."""
+    for kind, width, row, other in ((I32, 0, -7, 7), (CHAR, 2, b"a", b"b"), (STRING, 0, b"", b"c")):
+        for encoding in (2, 3, 4):
+            s.lend(items=48, ends=12, flags=2, counts=12, keys=12, lens=12)
+            s.create(kind, encoding, width)
+            s.append(other)
+            s.append(row)
+            kept = s.keep()
+            for last, n, runs, after in (
+                    (MOST_RUN - 5, 10, 1, 5), (MOST_RUN - 10, 10, 0, MOST_RUN), (MOST_RUN - 1, 1, 0, MOST_RUN), (MOST_RUN - 1, 2, 1, 1),
+                    (MOST_RUN, 1, 1, 1), (MOST_RUN, 3, 1, 3), (MOST_RUN + 1, 3, 1, 3), (2**33, 7, 1, 7), (MOST, 7, 1, 7), (0, 127, 0, 127),
+                    (0, 128, 0, 128), (120, 7, 0, 127), (120, 10, 0, 130), (1, 16382, 0, 16383), (1, 16383, 0, 16384),
+                    (1, MOST_RUN - 1, 0, MOST_RUN), (1, MOST_RUN, 1, 1), (5, 2 * MOST_RUN + 3, 2, 8),
+                    (MOST_RUN, 4 * MOST_RUN, 4, MOST_RUN)):
+                s.set(last=last)
+                s.cells("counts", 1, 9)
+                s.times(n, row)
+                assert (s.r["runs"], s.r["last"]) == (2 + runs, after) and s.r["entries"] == (2 if encoding == 4 else 0)
+                if last in (MOST_RUN - 5, 120, 5, MOST_RUN, MOST):
+                    s.show()
+                    s.finish()
+                    s.times(2, row)
+                    s.append(row)
+                    s.finish()
+                s.back(kept)
+            # another row, and nulls
+            for n in (2, MOST_RUN, MOST_RUN + 1, 3 * MOST_RUN - 1):
+                for more in (other, None):
+                    s.times(n, more)
+                    s.show()
+                    s.times(n, more)
+                    s.finish()
+                    s.back(kept)
+            # by calls alone: a count that is a byte longer, and one of five
+            for first, runs, last, length in ((120, 1, 130, 2), (MOST_RUN - 5, 2, 5, 6)):
+                s.create(kind, encoding, width)
+                s.times(first, row)
+                s.times(10, row)
+                assert (s.r["runs"], s.r["last"], s.r["counts"]) == (runs, last, length)
+                s.finish()
+
+
+def most_equal_rows(s):
+    """281,474,976,710,655 equal rows, and 1,048,576 where each is an item; one more is 3, as is any number above that."""
+    s.view(0)
+    s.lend(**{x: CELLS[x] for x in AREAS})
+    for kind, width, row in ((0, 0, 1), (0, 0, None), (CHAR, 1, b"c"), (BLOB, 0, b""), (STRING, 0, b"s")):
+        for encoding in (2, 3, 4):
+            s.create(kind, encoding, width)
+            for n in (MOST_ROWS + 1, 2**63, MOST):
+                s.times(n, row, expect=3)
+            s.times(MOST_ROWS, row)
+            assert (s.r["rows"], s.r["runs"], s.r["last"]) == (MOST_ROWS, 65537, 65535)
+            assert s.r["entries"] == int(encoding == 4 and row is not None)
+            for n in (1, 2, MOST_RUN, MOST_ROWS, MOST):
+                s.times(n, row, expect=3)
+            s.times(0, row)
+            s.append(row, expect=3)
+            s.estimate()
+            s.sums()
+            if row != b"s":
+                s.finish(s.block_size() - 1, expect=4)
+                s.finish()
+                s.sums()
+            # in two calls
+            s.create(kind, encoding, width)
+            s.times(MOST_ROWS - 65536, row)
+            s.times(65537, row, expect=3)
+            s.times(65536, row)
+            assert s.r["rows"] == MOST_ROWS and s.r["runs"] == 65537
+        if kind == CHAR:
+            s.lend(lens=65536)
+            s.create(kind, 3, width)
+            s.times(MOST_ROWS, row, expect=4)
+            s.times(MOST_ROWS - 65535, row)
+            s.lend(lens=CELLS["lens"])
+    for encoding, row in itertools.product((0, 1), (1, None)):
+        s.create(0, encoding)
+        for n in (MOST_ITEMS + 1, 2000000, 2**32, MOST_ROWS, MOST):
+            s.times(n, row, expect=3)
+        s.times(5, 1 - (row or 0))
+        s.times(MOST_ITEMS - 4, row, expect=3)
+        s.times(MOST, row, expect=3)
+        s.times(MOST_ITEMS - 5, row)
+        s.times(1, row, expect=3)
+        s.times(MOST, row, expect=3)
+        s.times(0, row)
+        s.sums()
+        s.finish()
+        s.sums()
+    # long runs behind short ones
+    s.create(I16, 2)
+    s.many(580, 1, 1, -1, 2)
+    s.times(2000000, 0)
+    s.times(2000000, 1)
+    s.finish()
+    s.sums()
+    s.view(1)
+
+
+def limits_before_room(s):
+    """3 comes before 4: for the rows, for the items, and for the block's bytes, which the rows would pass far beyond the areas."""
+    for encoding in range(5):
+        s.lend(items=10, ends=0, flags=2, counts=2, keys=2, lens=0)
+        s.create(0, encoding)
+        plain = encoding < 2
+        for n in (11, 16, 2 * MOST_RUN + 1, MOST_ITEMS, MOST_ITEMS + 1, 2000000, MOST_ROWS, MOST_ROWS + 1, 2**56, MOST):
+            over = n > (MOST_ITEMS if plain else MOST_ROWS)
+            s.times(n, 1, expect=3 if over else 4 if plain or n > 2 * MOST_RUN else 0)
+            if s.r["rows"]:
+                s.create(0, encoding)
+        s.times(10, 1)
+        s.times(1, 1, expect=4 if plain else 0)
+        s.times(MOST, 1, expect=3)
+    # as many rows as there can be
+    columns = (CHAR, 255, 3, 65793), (CHAR, 17, 17, 986895), (BLOB, 0, 100, 161319), (STRING, 0, 256, 64527)
+    for encoding, (kind, width, size, items) in itertools.product(range(4), columns):
+        s.view(0)
+        s.lend(items=size, ends=1, flags=1, counts=1, keys=0, lens=1)
+        s.create(kind, encoding, width)
+        row = b"r" * size
+        most = 0
+        for step in (2**k for k in reversed(range(48))):
+            wide = builder.grown_times(s.r, row, len(model.item(kind, width, row)), most + step, True, False)
+            most += 0 if builder.past(wide) else step
+        assert encoding > 0 or most == items
+        s.times(most, row, expect=4)
+        for n in (most + 1, 2**56, MOST):
+            s.times(n, row, expect=3)
+        s.view(1)
+    # an entry is stored once, an item with each run
+    for encoding, size, expect in ((2, 246, 4), (3, 246, 4), (4, 246, 0), (2, 247, 3), (3, 247, 3), (4, 247, 0)):
+        s.view(0)
+        s.lend(items=1000, ends=65537, flags=8193, counts=65537, keys=65537, lens=0)
+        s.create(BLOB, encoding)
+        s.times(MOST_ROWS, b"r" * size, expect=expect)
+        s.view(1)
+
+
+def bytes_of_runs(s):
+    """The growth of the counts' byte length is all the rows' together, and the block's bytes with all of them are held to the limit."""
+    for kind, width, row, other in ((0, 0, 1, 0), (CHAR, 3, b"a", b"b"), (BLOB, 0, b"ab", b"cde")):
+        for encoding in (2, 3, 4):
+            s.roomy(items=24)
+            s.create(kind, encoding, width)
+            s.append(row)
+            kept = s.keep()
+            size = builder.finished_bytes(s.r) - s.r["counts"]
+            for left in (0, 1, 2, 4):
+                s.set(counts=MOST_BYTES - size - left)
+                for n, growth in ((126, 0), (127, 1), (16382, 1), (16383, 2), (2097151, 3), (268435455, 4), (MOST_RUN - 1, 4)):
+                    s.times(n, row, expect=3 if growth > left else 0)
+                    s.times(0, row, expect=0)
+                    s.set(rows=1, last=1, counts=MOST_BYTES - size - left)
+                s.back(kept)
+            # to the byte, for some runs more of each row
+            for more, n in itertools.product((row, other, None), (2, MOST_RUN + 127, 2 * MOST_RUN + 128)):
+                s.set(last=MOST_RUN)
+                length = len(model.item(kind, width, more))
+                after = builder.grown_times(s.r, more, length, n, encoding != 4 or more == other, False)
+                most = MOST_BYTES - (builder.finished_bytes(after) - s.r["counts"])
+                for counts, answer in ((most, 0), (most + 1, 3)):
+                    s.set(last=MOST_RUN, counts=counts)
+                    s.times(n, more, expect=answer)
+                    s.estimate()
+                    s.back(kept)
+
+
+def order_of_times(s):
+    """9, 2, 3, 4 in this order, for any number of rows; for none of them 9 and 2 alone, and nothing changes."""
+    for encoding, n in itertools.product((2, 3, 4), (0, 1, 3, MOST_ROWS, MOST)):
+        s.roomy(items=8)
+        s.create(CHAR, encoding, 2)
+        s.append(b"a")
+        s.append(b"b")
+        kept = s.keep()
+        s.lend_need()
+        over = 3 if n > 9 else None
+        s.times(n, b"abc", expect=2)
+        s.times(n, b"\xff", expect=2)
+        s.times(n, b"c", expect=0 if n == 0 else over or 4)
+        s.set(counts=MOST_BYTES - (builder.finished_bytes(s.r) - s.r["counts"]))
+        s.times(n, b"abc", expect=2)
+        s.times(n, b"c", expect=3 if n else 0)
+        s.times(n, b"b", expect=over or 0)
+        s.cells("lens", 1, 3)
+        for row in (b"abc", b"c", b"b", b"\xff"):
+            s.times(n, row, expect=9)
+        s.lend(items=3)
+        s.times(n, None, expect=9)
+        s.back(kept)
+        s.set(bytes=5)
+        s.times(n, b"b", expect=9)
+        s.back(kept)
+    # ends that are read, and those that aren't
+    for encoding, n in itertools.product(range(5), (0, 2)):
+        s.roomy(items=16)
+        s.create(STRING, encoding)
+        for row in (b"ab", b"c", b"de"):
+            s.append(row)
+        kept = s.keep()
+        for place, end in ((2, 4), (2, 6), (2, 2), (1, 5), (1, 9), (0, 4), (0, 3)):
+            for row in (b"de", b"new", None, b"\xff"):
+                s.cells("ends", place, end)
+                wrong = encoding in (2, 3) and (place == 2 or end == 9)
+                wrong = wrong or encoding == 4 and row is not None and (place == 2 or (place, end) in ((1, 9), (0, 4)))
+                s.times(n, row, expect=9 if wrong else 2 if row == b"\xff" else 0)
+                s.back(kept)
+    # rows that don't fit
+    for kind, encoding, width in pairs():
+        if kind == BLOB or kind in FIXED and FIXED[kind][0] == 8:
+            continue
+        s.roomy()
+        s.create(kind, encoding, width)
+        bad = 2**33 if kind in FIXED else b"\xc3" if kind == STRING else b"wxyz"
+        for n in (0, 2, MOST):
+            s.times(n, bad, expect=2)
+            s.times(n, None, value=2**33, data=b"\xff", expect=3 if n == MOST else 0)
+    s.create(12, 0, 0, 7, expect=1)
+    for n in (0, 2, MOST):
+        s.times(n, None, expect=9)
+
+
+def no_rows(s):
+    """No rows: the record comes back as it is, a null above 1 too, at every limit; one row and more write 0 or 1 for it."""
+    for kind, row in ((I16, 0), (I16, 5), (BLOB, b""), (CHAR, b"")):
+        for encoding in range(5):
+            s.lend(items=24, ends=12, flags=2, counts=12, keys=12, lens=12)
+            s.create(kind, encoding, 2 if kind == CHAR else 0)
+            for null in (0, 1, 2, 2**32, MOST):
+                s.set(null=null)
+                s.times(0, row)
+                s.times(0, None)
+                assert s.r["null"] == null and s.r["rows"] == 0
+            s.append(row)
+            kept = s.keep()
+            for null in (2, 2**63, MOST):
+                for more in (row, None):
+                    s.set(null=null)
+                    s.times(0, more)
+                    s.times(2, more)
+                    assert s.r["null"] == (null if encoding < 2 else int(more is None))
+                    s.back(kept)
+            for last in (0, MOST_RUN, MOST):
+                s.set(last=last)
+                s.times(0, row)
+                s.times(0, None)
+                assert s.r["last"] == last
+                s.back(kept)
+            if encoding >= 2:
+                s.set(rows=MOST_ROWS)
+                s.times(0, row)
+                s.times(1, row, expect=3)
+                s.set(rows=MOST_ROWS + 1)
+                s.times(0, row, expect=9)
+            s.back(kept)
+            s.lend_need()
+            s.times(0, 7 if kind == I16 else b"ab")
+            s.lend_need(**{x: -1 for x in AREAS})
+            s.times(0, row, expect=9)
+
+
+def held_items(s):
+    """What is there decides of the first of the rows alone: items that were changed, flags with bits set, bools above 1, entries."""
+    for kind, width in ((CHAR, 1), (BLOB, 0), (0, 0)):
+        for encoding, dirt in itertools.product((1, 3), (0, 255, 0xa5)):
+            s.cells("flags", 0, dirt, count=4)
+            s.lend(items=20, ends=20, flags=3, counts=20, keys=0, lens=20)
+            s.create(kind, encoding, width)
+            one, two = (0, 1) if kind == 0 else (b"c", b"")
+            for i in range(6):
+                s.append((one, two)[i % 2])
+            # six rows and five more: the flags go on in the next byte
+            n = 5 if encoding == 1 else 5 * MOST_RUN
+            kept = s.keep()
+            for row in (None, one):
+                s.times(n, row)
+                assert builder.stored(s.r) == 11
+                s.show()
+                s.finish()
+                s.back(kept)
+            s.times(n, None)
+            s.times(n, one)
+            s.show()
+            s.finish()
+    for encoding in (2, 3, 4):
+        s.lend(items=8, ends=0, flags=1, counts=4, keys=4, lens=0)
+        s.create(0, encoding)
+        s.append(1)
+        for byte in (2, 128, 255):
+            s.cells("items", 0, byte)
+            s.times(3, 1)
+            assert s.r["runs"] == 1
+        s.times(2 * MOST_RUN, 1)
+        s.show()
+        s.finish()
+    for kind, width in ((I32, 0), (DATE, 0), (CHAR, 2), (BLOB, 0)):
+        for encoding in (2, 3, 4):
+            one, two = (0x01020304, 0x04030201) if kind in FIXED else (b"ab", b"ba")
+            s.roomy(items=24)
+            s.create(kind, encoding, width)
+            s.times(2, one)
+            s.cells("items", 0, *(model.item(kind, width, two)))
+            for row in (two, one, two):
+                s.times(3, row)
+                s.times(MOST_RUN, row)
+            s.finish()
+    # an entry is the last that there can be, by a record that says so
+    s.view(0)
+    s.lend(**{x: CELLS[x] for x in AREAS})
+    s.create(BLOB, 4)
+    s.set(entries=MOST_ENTRIES - 1)
+    s.cells("ends", 0, 0, count=MOST_ENTRIES)
+    s.times(0, b"a")
+    s.times(3, b"a")
+    s.times(2, b"b", expect=3)
+    s.times(0, b"b")
+    s.times(MOST_RUN, b"a")
+    s.times(2, b"")
+    assert (s.r["entries"], s.r["runs"], s.r["rows"]) == (MOST_ENTRIES, 3, MOST_RUN + 5)
+    s.sums()
+    s.view(1)
+
+
+def forged_times(s):
+    """Each field of a record set to other values."""
+    for encoding, (kind, width) in enumerate(((I16, 0), (CHAR, 2), (BLOB, 0), (CHAR, 2), (STRING, 0))):
+        rows = some_rows(kind, encoding, width)
+        s.dirty()
+        s.build(kind, encoding, width, rows[1:7], 12)
+        s.lend_times(3, rows[-1])
+        kept = s.keep()
+        s.view(0)
+        for field in FIELDS:
+            for i, value in enumerate(sorted(forged_values(field, s.r, encoding))):
+                s.set(**{field: value})
+                s.times((3, 0, 2, MOST_RUN)[i % 4], rows[-1] if i % 3 else None, expect=None)
+                s.times((2, MOST, 1, 0)[i % 4], rows[-1], expect=None)
+                s.show()
+                s.back(kept)
+        s.view(1)
+
+
+def many_times(s):
+    """Rows that are appended 300 times, with a row before and one behind."""
+    s.view(0)
+    s.lend(items=5000, ends=320, flags=40, counts=8, keys=8, lens=320)
+    for kind, encoding, width in bases():
+        rows = some_rows(kind, encoding, width)
+        s.create(kind, encoding, width)
+        for row, n in ((rows[0], 1), (rows[3], 300), (None, 1), (rows[0], 0), (rows[3], 2)):
+            s.times(n, row)
+        s.finish()
+        s.sums()
+    s.view(1)
+
+
+def lend_about(s, n, row):
+    """Areas that hold a row so many times, or nearly; loose ones where that is much."""
+    pick, need = s.random.choice, None
+    if builder.fits(s.r, row) and not builder.too_short(s.r, s.lent):
+        need = s.times_needs(n, row)
+    if need is None or max(need.values()) > NEAR:
+        return lend_loose(s)
+    return s.lend(**{x: max(0, k + pick((-1, 0, 0, 0, 0, 0, 0, 1, 2))) for x, k in need.items()})
+
+
+def times_by_chance(s):
+    """Random lists of a row so many times, in areas that now and then are short; then forged states of them."""
+    pick, chance = s.random.choice, s.random.random
+    s.roomy()
+    for turn in range(90):
+        kind, encoding = KINDS[turn % len(KINDS)], turn // 2 % 5
+        width = pick((1, 2, 3)) if kind == CHAR else 0
+        s.create(kind, encoding, width)
+        for _ in range(pick((2, 4, 6))):
+            row = any_row(s, kind, width, True)
+            n = pick((0, 1, 2, 2, 3, 5, 8, 127, 300, MOST_RUN - 2, MOST_RUN, 2 * MOST_RUN + 1, MOST_ROWS, MOST))
+            lend_about(s, n, row)
+            s.times(n, row, value=pick((0, 5)), data=pick((b"", b"q")), expect=None)
+            if chance() < .3:
+                s.append(row, expect=None)
+        s.show()
+        s.lend(**{x: max(n, s.lent[x]) for x, n in builder.needs(s.r).items()})
+        s.finish(expect=None)
+        for _ in range(2):
+            kept = s.keep()
+            alter(s)
+            row = any_row(s, s.r["kind"] if s.r["kind"] in FIXED else BLOB, s.r["width"], True)
+            s.times(pick((0, 1, 2, 7, MOST_RUN - 1, MOST_RUN + 1, MOST)), row, expect=None)
+            s.back(kept)
+
+
 SECTIONS = (samples, counts, all_pairs, many_flags, borders, as_given, last_counts, most_rows, most_items, most_entries, most_bytes,
             large_records, targets, key_targets, kept_key_targets, importer, creation, forged, damaged, order, texts, long_items,
-            by_chance)
+            by_chance, splits, all_or_none, filled_runs, most_equal_rows, limits_before_room, bytes_of_runs, order_of_times, no_rows,
+            held_items, forged_times, many_times, times_by_chance)
 
 
 def main():
@@ -1386,7 +1895,7 @@ def main():
         if sys.argv[3:] and section.__name__ not in sys.argv[3:]:
             continue
         section(s)
-        calls = sum(n for call, n in s.calls.items() if call in ("create", "append", "finish", "estimate", "should"))
+        calls = sum(n for call, n in s.calls.items() if call in ("create", "append", "times", "finish", "estimate", "should"))
         written = sum(map(len, s.answers)) + len(s.answers)
         now = len(s.commands), written, calls
         print("%s: %d bytes in, %d out, %d calls" % (section.__name__, *(a - b for a, b in zip(now, done))))

@@ -206,6 +206,209 @@ static void refused(void) {
     expect(append(builder, 1, 0, "ab", 64).number == IDZ_DISAGREE, "a record that contradicts itself is 9");
 }
 
+/* The six areas again, as one memory that can be kept and compared: room for 40 rows of any kind here. */
+typedef struct {
+    uint32_t ends[40], counts[40];
+    int32_t keys[40];
+    uint8_t items[320], flags[8], lens[40];
+} memory;
+
+enum { ITEMS = 320 };
+
+static idz_appended times_into(memory *lent, size_t items_len, idz_builder builder, int present, int64_t value, const char *item,
+                               size_t times) {
+    return idz_append_times(builder, lent->items, items_len, lent->ends, 40, lent->flags, 8, lent->counts, 40, lent->keys, 40, lent->lens,
+                            40, (uint8_t)present, value, (const uint8_t *)item, strlen(item), times);
+}
+
+static idz_appended once_into(memory *lent, idz_builder builder, int present, int64_t value, const char *item) {
+    return idz_append(builder, lent->items, ITEMS, lent->ends, 40, lent->flags, 8, lent->counts, 40, lent->keys, 40, lent->lens, 40,
+                      (uint8_t)present, value, (const uint8_t *)item, strlen(item));
+}
+
+static int unchanged(const memory *one, const memory *other) { return memcmp(one, other, sizeof *one) == 0; }
+
+static const size_t MOST_ROWS = 281474976710655, FULL_RUN = 4294967295;
+
+/* A loan of 360 equal payments: one run, and the same by single rows. */
+static void payments(void) {
+    static const uint8_t block[] = {1, 0, 0, 0, 2, 0, 0, 0, 0xE8, 2, 0x23, 0x5C, 1, 0, 0, 0, 0, 0};
+    memory lent = {0}, other = {0};
+    idz_builder builder = idz_create(IDZ_I64, IDZ_RUN_LENGTH, 0, 100).builder, single = builder;
+    idz_appended appended =
+        idz_append_times(builder, lent.items, 8, NULL, 0, NULL, 0, lent.counts, 1, NULL, 0, NULL, 0, 1, 89123, NULL, 0, 360);
+    expect(appended.number == IDZ_DONE && appended.builder.rows == 360 && appended.builder.runs == 1, "360 payments in one run");
+    for (int month = 0; month < 360; month++) {
+        single = once_into(&other, single, 1, 89123, "").builder;
+    }
+    expect(same(appended.builder, single) && unchanged(&lent, &other), "as by 360 appends");
+    idz_finished finished = idz_finish(single, lent.items, 8, NULL, 0, NULL, 0, lent.counts, 1, NULL, 0, NULL, 0, out, sizeof out);
+    expect(finished.number == IDZ_DONE && finished.len == sizeof block && memcmp(out, block, sizeof block) == 0, "the block of 360 payments");
+}
+
+/* Up to 20 rows at once behind up to three others, of every kind and encoding, in every split: as by single rows, in every byte. */
+static void as_single_rows(void) {
+    static const char *texts[] = {"", "a", "bc"};
+    for (size_t kind = IDZ_BOOL; kind <= IDZ_F64; kind++) {
+        for (size_t encoding = IDZ_PLAIN; encoding <= IDZ_DICTIONARY; encoding++) {
+            for (size_t before = 0; before <= 3; before++) {
+                for (int row = 0; row < 3; row++) {
+                    memory start;
+                    memset(&start, 0x5A, sizeof start);
+                    idz_builder builder = idz_create(kind, encoding, kind == IDZ_CHAR ? 3 : 0, 0).builder;
+                    for (size_t place = 0; place < before; place++) {
+                        builder = once_into(&start, builder, place != 1, (int64_t)place % 2, texts[place % 2]).builder;
+                    }
+                    memory singles = start;
+                    idz_builder single = builder;
+                    for (size_t times = 0; times <= 20; times++) {
+                        memory all = start;
+                        idz_appended appended = times_into(&all, ITEMS, builder, row != 1, row % 2, texts[row], times);
+                        expect(appended.number == IDZ_DONE && same(appended.builder, single) && unchanged(&all, &singles), "n rows at once");
+                        memory split = start;
+                        appended = times_into(&split, ITEMS, builder, row != 1, row % 2, texts[row], times / 3);
+                        appended = times_into(&split, ITEMS, appended.builder, row != 1, row % 2, texts[row], times - times / 3);
+                        expect(appended.number == IDZ_DONE && same(appended.builder, single) && unchanged(&split, &singles), "n and then m");
+                        single = once_into(&singles, single, row != 1, row % 2, texts[row]).builder;
+                    }
+                }
+            }
+        }
+    }
+}
+
+/* A run of 4,294,967,290 rows, and ten more: five join, and five are another run. */
+static void full_runs(void) {
+    for (size_t encoding = IDZ_RUN_LENGTH; encoding <= IDZ_DICTIONARY; encoding++) {
+        int keyed = encoding == IDZ_DICTIONARY;
+        memory lent = {0};
+        idz_builder builder = idz_create(IDZ_I32, encoding, 0, 0).builder;
+        builder = times_into(&lent, ITEMS, builder, 1, 7, "", 4294967290).builder;
+        expect(builder.runs == 1 && builder.last == 4294967290 && lent.counts[0] == 4294967290, "a run that is nearly full");
+        memory full = lent;
+        idz_appended appended = times_into(&full, ITEMS, builder, 1, 7, "", 5);
+        expect(appended.builder.runs == 1 && appended.builder.last == FULL_RUN && full.counts[0] == FULL_RUN, "five join");
+        appended = times_into(&lent, ITEMS, builder, 1, 7, "", 10);
+        builder = appended.builder;
+        expect(appended.number == IDZ_DONE && builder.rows == 4294967300 && builder.runs == 2 && builder.last == 5, "of ten, five join");
+        expect(lent.counts[0] == FULL_RUN && lent.counts[1] == 5 && builder.counts == 6, "and five are another run");
+        expect(builder.bytes == (keyed ? 4 : 8) && lent.items[4] == (keyed ? 0 : 7), "with the item again, but for an entry");
+        expect(builder.entries == (size_t)keyed && (!keyed || (lent.keys[0] == INT32_MIN + 1 && lent.keys[1] == INT32_MIN + 1)),
+               "or the key again");
+    }
+}
+
+/* The most rows that a block can have, in one call. */
+static void most_rows(void) {
+    static uint8_t some_items[65538], some_flags[8194];
+    static uint32_t some_counts[65538];
+    static int32_t some_keys[65538];
+    for (size_t encoding = IDZ_RUN_LENGTH; encoding <= IDZ_DICTIONARY; encoding++) {
+        int keyed = encoding == IDZ_DICTIONARY;
+        size_t items_len = keyed ? 1 : 65537, flags_len = encoding == IDZ_RUN_LENGTH_NULLABLE ? 8193 : 0, keys_len = keyed ? 65537 : 0;
+        memset(some_items, 0x5A, sizeof some_items);
+        memset(some_flags, 0x5A, sizeof some_flags);
+        memset(some_counts, 0x5A, sizeof some_counts);
+        memset(some_keys, 0x5A, sizeof some_keys);
+        idz_builder builder = idz_create(IDZ_BOOL, encoding, 0, 0).builder;
+        idz_appended appended = idz_append_times(builder, some_items, items_len, NULL, 0, some_flags, flags_len, some_counts, 65536,
+                                                 some_keys, keys_len, NULL, 0, 1, 1, NULL, 0, MOST_ROWS);
+        expect(appended.number == IDZ_ROOM && same(appended.builder, builder), "a run's count without a slot is 4");
+        int written = some_items[0] != 0x5A || some_flags[0] != 0x5A || some_counts[0] != 0x5A5A5A5A || some_keys[0] != 0x5A5A5A5A;
+        expect(!written, "and nothing is written");
+        appended = idz_append_times(builder, some_items, items_len, NULL, 0, some_flags, flags_len, some_counts, 65537, some_keys, keys_len,
+                                    NULL, 0, 1, 1, NULL, 0, MOST_ROWS);
+        idz_builder most = appended.builder;
+        expect(appended.number == IDZ_DONE && most.rows == MOST_ROWS && most.runs == 65537 && most.last == 65535, "65,537 runs");
+        expect(most.counts == 5 * 65536 + 3 && most.bytes == items_len && most.entries == (size_t)keyed, "of five bytes, and of three");
+        int full = some_counts[65536] == 65535, equal = some_flags[8192] == (flags_len > 0 ? 1 : 0x5A);
+        for (size_t run = 0; run < 65537; run++) {
+            full = full && (run == 65536 || some_counts[run] == FULL_RUN);
+            equal = equal && (run >= items_len || some_items[run] == 1) && (run >= keys_len || some_keys[run] == INT32_MIN + 1);
+            equal = equal && (run / 8 >= 8192 || flags_len == 0 || some_flags[run / 8] == 0xFF);
+        }
+        expect(full, "65,536 full runs and one of 65,535");
+        expect(equal, "with equal items, flags and keys");
+        expect(some_counts[65537] == 0x5A5A5A5A && some_items[65537] == 0x5A && some_flags[8193] == 0x5A, "and nothing behind them");
+        for (int sort = 0; sort < 2; sort++) {
+            appended = idz_append(most, some_items, 65538, NULL, 0, some_flags, 8194, some_counts, 65538, some_keys, 65538, NULL, 0,
+                                  (uint8_t)sort, 1, NULL, 0);
+            expect(appended.number == IDZ_LIMIT && same(appended.builder, most), "one row more is 3, whether or not it joins");
+        }
+        appended = idz_append_times(builder, some_items, 65538, NULL, 0, some_flags, 8194, some_counts, 65538, some_keys, 65538, NULL, 0, 1,
+                                    1, NULL, 0, MOST_ROWS + 1);
+        expect(appended.number == IDZ_LIMIT && same(appended.builder, builder), "so it is in one call");
+    }
+}
+
+/* Flags over the edge of a byte, and a count that takes a byte more. */
+static void edges(void) {
+    memory lent;
+    memset(&lent, 0x5A, sizeof lent);
+    idz_builder builder = idz_create(IDZ_I32, IDZ_NULLABLE, 0, 0).builder;
+    builder = times_into(&lent, ITEMS, builder, 1, 7, "", 6).builder;
+    expect(lent.flags[0] == 0x3F && lent.flags[1] == 0x5A, "six flags");
+    memory nulls = lent;
+    times_into(&nulls, ITEMS, builder, 0, 0, "", 5);
+    expect(nulls.flags[0] == 0x3F && nulls.flags[1] == 0, "and five of nulls");
+    idz_appended appended = times_into(&lent, ITEMS, builder, 1, 7, "", 5);
+    expect(appended.number == IDZ_DONE && lent.flags[0] == 0xFF && lent.flags[1] == 7 && lent.flags[2] == 0x5A, "or five more");
+    builder = times_into(&lent, ITEMS, idz_create(IDZ_I32, IDZ_RUN_LENGTH, 0, 0).builder, 1, 7, "", 120).builder;
+    expect(builder.counts == 1 && times_into(&lent, ITEMS, builder, 1, 7, "", 7).builder.counts == 1, "127 rows: a byte");
+    builder = times_into(&lent, ITEMS, builder, 1, 7, "", 10).builder;
+    expect(builder.counts == 2 && builder.last == 130 && lent.counts[0] == 130, "130 rows: two");
+}
+
+/* What n rows are refused as: 9, 2, 3, 4, and n = 0 as 9 and 2 alone. */
+static void times_refused(void) {
+    static const size_t many[] = {0, 1, 10, 2000000, SIZE_MAX};
+    memory lent, before;
+    memset(&lent, 0x5A, sizeof lent);
+    /* plain bool, room for ten rows */
+    idz_builder bools = idz_create(IDZ_BOOL, IDZ_PLAIN, 0, 0).builder;
+    before = lent;
+    expect(times_into(&lent, 10, bools, 1, 1, "", 11).number == IDZ_ROOM && unchanged(&lent, &before), "eleven rows are 4: room is for ten");
+    expect(times_into(&lent, 10, bools, 1, 1, "", 1048576).number == IDZ_ROOM, "so are 1,048,576");
+    expect(times_into(&lent, 10, bools, 1, 1, "", 1048577).number == IDZ_LIMIT, "one more is 3, which comes before 4");
+    expect(times_into(&lent, 10, bools, 1, 1, "", 2000000).number == IDZ_LIMIT, "so are 2,000,000");
+    expect(times_into(&lent, 0, bools, 1, 1, "", 2000000).number == IDZ_LIMIT, "and with no room at all");
+    expect(times_into(&lent, 10, bools, 1, 2, "", 2000000).number == IDZ_ITEM, "of a row that doesn't fit they are 2");
+    expect(unchanged(&lent, &before), "and nothing is written");
+    expect(times_into(&lent, 10, bools, 1, 1, "", 10).number == IDZ_DONE && !unchanged(&lent, &before), "ten rows are taken");
+    /* char of 2 and string: rows that don't fit, however many times */
+    idz_builder chars = times_into(&lent, ITEMS, idz_create(IDZ_CHAR, IDZ_RUN_LENGTH, 2, 0).builder, 1, 0, "ab", 3).builder;
+    idz_builder strings = idz_create(IDZ_STRING, IDZ_PLAIN, 0, 0).builder;
+    before = lent;
+    for (size_t at = 0; at < sizeof many / sizeof many[0]; at++) {
+        expect(times_into(&lent, ITEMS, chars, 1, 0, "abc", many[at]).number == IDZ_ITEM, "a char that is too long is 2");
+        expect(times_into(&lent, ITEMS, chars, 1, 0, "\xC3", many[at]).number == IDZ_ITEM, "one that isn't text too");
+        expect(times_into(&lent, ITEMS, strings, 1, 0, "\xC3", many[at]).number == IDZ_ITEM, "so is a string");
+        idz_builder wrong = chars;
+        wrong.bytes++;
+        expect(times_into(&lent, ITEMS, wrong, 1, 0, "abc", many[at]).number == IDZ_DISAGREE, "a record that contradicts itself is 9 before");
+    }
+    /* nothing of a row that fits, with no room for it: done */
+    chars.null = 5;
+    idz_appended appended = times_into(&lent, 2, chars, 1, 0, "cd", 0);
+    expect(appended.number == IDZ_DONE && same(appended.builder, chars) && unchanged(&lent, &before), "0 rows change nothing, nor `null`");
+    expect(times_into(&lent, 1, chars, 1, 0, "cd", 0).number == IDZ_DISAGREE, "but items that aren't there are 9");
+    lent.lens[0] = 3;
+    expect(times_into(&lent, ITEMS, chars, 1, 0, "ab", 0).number == IDZ_DISAGREE, "so is a length above the width");
+    idz_builder blobs = times_into(&lent, ITEMS, idz_create(IDZ_BLOB, IDZ_DICTIONARY, 0, 0).builder, 1, 0, "ab", 3).builder;
+    lent.ends[0]++;
+    expect(times_into(&lent, ITEMS, blobs, 1, 0, "ab", 0).number == IDZ_DISAGREE, "and an end past the bytes");
+    expect(times_into(&lent, ITEMS, blobs, 0, 0, "", 0).number == IDZ_DONE, "which no null looks at");
+    /* any number of rows gets an answer; bytes in all are 2^64 and more */
+    for (size_t encoding = IDZ_PLAIN; encoding <= IDZ_DICTIONARY; encoding++) {
+        idz_builder builder = idz_create(IDZ_BLOB, encoding, 0, 0).builder;
+        before = lent;
+        expect(times_into(&lent, ITEMS, builder, 1, 0, "ab", SIZE_MAX).number == IDZ_LIMIT, "2^64 - 1 rows are 3");
+        expect(times_into(&lent, ITEMS, builder, 1, 0, "ab", (size_t)1 << 63).number == IDZ_LIMIT, "2^63 of two bytes too");
+        expect(times_into(&lent, ITEMS, builder, 0, 0, "", MOST_ROWS + 1).number == IDZ_LIMIT, "2^48 nulls too");
+        expect(unchanged(&lent, &before), "and nothing is written");
+    }
+}
+
 int main(void) {
     expect(IDZ_VERSION == 4, "the header's version");
     run_length();
@@ -215,6 +418,12 @@ int main(void) {
     floats();
     strings();
     refused();
+    payments();
+    as_single_rows();
+    full_runs();
+    most_rows();
+    edges();
+    times_refused();
     printf("%d passed, %d failed\n", passed, failed);
     return failed > 0;
 }

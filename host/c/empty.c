@@ -63,6 +63,12 @@ static idz_appended append(idz_builder builder, unsigned missing, void *none, in
                       sort != NO_ROW, 1, sort == ONE_BYTE ? item : none, sort == ONE_BYTE);
 }
 
+static idz_appended append_times(idz_builder builder, unsigned missing, void *none, int sort, size_t times) {
+    static const uint8_t item[] = {1};
+    return idz_append_times(builder, LENT(0, items), LENT(1, ends), LENT(2, flags), LENT(3, counts), LENT(4, keys), LENT(5, lens),
+                            sort != NO_ROW, 1, sort == ONE_BYTE ? item : none, sort == ONE_BYTE, times);
+}
+
 static idz_finished finish(idz_builder builder, unsigned missing, void *none) {
     return idz_finish(builder, LENT(0, items), LENT(1, ends), LENT(2, flags), LENT(3, counts), LENT(4, keys), LENT(5, lens),
                       LENT(6, out));
@@ -102,6 +108,10 @@ static void nothing(int kind, int encoding, size_t width) {
     for (int sort = 0; sort < SORTS; sort++) {
         idz_appended appended = append(builder, ALL_OF_BUILDING, NULL, sort);
         expect(appended.number == IDZ_ROOM && same_builder(appended.builder, builder), "a row into no memory", kind, encoding);
+        appended = append_times(builder, ALL_OF_BUILDING, NULL, sort, 3);
+        expect(appended.number == IDZ_ROOM && same_builder(appended.builder, builder), "three into no memory", kind, encoding);
+        appended = append_times(builder, ALL_OF_BUILDING, NULL, sort, 0);
+        expect(appended.number == IDZ_DONE && same_builder(appended.builder, builder), "none into no memory", kind, encoding);
     }
 }
 
@@ -139,7 +149,7 @@ static void read_back(int kind, int encoding, size_t width, size_t rows, const u
     }
 }
 
-/* One row more, and the block, in every choice of areas. */
+/* One row more, none, two and three at once, and the block, in every choice of areas. */
 static void build_on(int kind, int encoding, idz_builder builder) {
     for (unsigned missing = 0; missing <= ALL_OF_BUILDING; missing++) {
         struct memory before = memory;
@@ -151,6 +161,17 @@ static void build_on(int kind, int encoding, idz_builder builder) {
             expect(one.number == other.number && same_builder(one.builder, other.builder), "append's answer", kind, encoding);
             expect(same_memory(after), "what append leaves", kind, encoding);
             memory = before;
+            for (size_t times = 0; times <= 3; times++) {
+                idz_appended null = append_times(builder, missing, NULL, sort, times);
+                after = memory;
+                memory = before;
+                other = append_times(builder, missing, &elsewhere, sort, times);
+                expect(null.number == other.number && same_builder(null.builder, other.builder), "append_times' answer", kind, encoding);
+                expect(same_memory(after), "what append_times leaves", kind, encoding);
+                expect(times != 0 || same_memory(before), "no rows change nothing", kind, encoding);
+                expect(times != 1 || (null.number == one.number && same_builder(null.builder, one.builder)), "one row", kind, encoding);
+                memory = before;
+            }
         }
         idz_finished one = finish(builder, missing, NULL);
         struct memory after = memory;

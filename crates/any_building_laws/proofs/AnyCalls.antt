@@ -6,7 +6,7 @@ use mathlib.Core.List.{List, [], _∷_, _++_}
 use mathlib.Core.Logic.{inl, inr}
 use mathlib.Core.Path.{_≡_, refl, ap, _∙_}
 use lib.Dec.{ltb}
-use lib.ListN.{length, drop}
+use lib.ListN.{length, drop, replicate}
 use Rattle.limits.specs.Refusals.{ITEM, LIMIT, ROOM}
 use Rattle.encode.specs.declared.Kind.{Kind}
 use Rattle.plain.specs.Each.{Each}
@@ -47,8 +47,8 @@ module _ (k : Kind) (e : Encoding) (target key : ℕ) where
 
   due-allowed : (rows : List Row) (a : Lent) (q : Ask) → Allowed (due k e target key rows a q)
   unfolding due appendNumber
-  due-allowed rows a (append v) =
-      let more : List Row = rows ++ (rowIn k v ∷ []) in
+  due-allowed rows a (append n v) =
+      let more : List Row = rows ++ replicate n (rowIn k v) in
       number-allowed (fits k (rowIn k v)) (withinLimits k e more) (below (needOf k e more) (roomOf a))
   due-allowed rows a (finish out) = finish-allowed (blockOf k e rows) out
   due-allowed rows a estimate = refl

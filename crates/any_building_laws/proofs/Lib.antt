@@ -1,7 +1,8 @@
 pub mod Room
 pub mod Carrying
-pub mod RoomForOne
 pub mod Unchanged
+pub mod Copies
+pub mod RoomForCopies
 pub mod OneCall
 pub mod AcceptedRows
 pub mod AnyCalls

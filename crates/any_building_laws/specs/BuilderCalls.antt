@@ -1,12 +1,13 @@
 -- 01, "Building": any list of the builder's calls, from creation on; what is answered, and what ought to be, from the rows accepted so far alone. Assumes
 -- nothing.
-use Prim.Native.Nat.{ℕ, _+_, _≤_}
+use Prim.Native.Nat.{ℕ, _+_, _-_, _*_, _/_, _≤_, min}
 use mathlib.Core.Path.{_≡_}
 use mathlib.Core.Logic.{_⊎_}
 use mathlib.Core.Bool.{Bool, true, cond, not, _||_}
 use mathlib.Core.List.{List, [], _∷_, _++_, map}
 use lib.Dec.{ltb, eqb}
-use lib.ListN.{length, take, drop}
+use lib.ListN.{length, take, drop, replicate}
+use Rattle.limits.specs.Limits.{MOST_COUNT}
 use Rattle.limits.specs.Refusals.{ITEM, LIMIT, ROOM}
 use Rattle.encode.specs.declared.Kind.{Kind}
 use Rattle.plain.specs.Rows.{Row, fits}
@@ -20,14 +21,14 @@ use Rattle.needs.specs.declared.Room.{Room}
 use Rattle.needs.specs.Needs.{coded, flagged, keyed, storedBy}
 use Rattle.append.specs.Appending.{Lent, roomOf}
 use Rattle.builder.specs.declared.Builder.{Builder}
-use Rattle.builder.specs.Building.{Append, appended}
+use Rattle.builder.specs.Building.{Append, appendedTimes}
 use Rattle.builder.specs.Finishing.{Finish, finished, estimated, asked}
 use Rattle.building_laws.specs.Built.{Given, rowIn, storedRows, storedRuns, endSlots, lenSlots}
 
 -- ---- the calls
--- a row, a room to write the block into, the estimated size, whether to finish before a next row
+-- a row n times, a room to write the block into, the estimated size, whether to finish before a next row
 pub data Ask : Type 0 where
-  append : Given → Ask
+  append : ℕ → Given → Ask
   finish : List ℕ → Ask
   estimate : Ask
   shouldFinishBefore : Given → Ask
@@ -68,7 +69,7 @@ unfoldable pub finishAnswer : Finish → Answer
 finishAnswer f = finishes (f .answer .number) (f .answer .len) (f .out)
 
 unfoldable pub answerTo : Builder → Lent → Ask → Answer
-answerTo r a (append g) = appends (appended r a (g .present) (g .value) (g .text) .answer .number)
+answerTo r a (append n g) = appends (appendedTimes r a n (g .present) (g .value) (g .text) .answer .number)
 answerTo r a (finish out) = finishAnswer (finished r a out)
 answerTo r a estimate = estimates (estimated r .number) (estimated r .size)
 answerTo r a (shouldFinishBefore g) = asks (asked r (g .present) (length (g .text)) .number) (asked r (g .present) (length (g .text)) .full)
@@ -77,7 +78,7 @@ abbrev pub afterAppend : Append → After
 afterAppend x = record { builder = x .answer .builder; areas = x .areas }
 
 unfoldable pub after : Builder → Lent → Ask → After
-after r a (append g) = afterAppend (appended r a (g .present) (g .value) (g .text))
+after r a (append n g) = afterAppend (appendedTimes r a n (g .present) (g .value) (g .text))
 after r a (finish out) = record { builder = finished r a out .answer .builder; areas = a }
 after r a estimate = record { builder = estimated r .builder; areas = a }
 after r a (shouldFinishBefore g) = record { builder = asked r (g .present) (length (g .text)) .builder; areas = a }
@@ -135,12 +136,12 @@ below need room =
     || ltb (room .keys) (need .keys)
     || ltb (room .lens) (need .lens)
 
--- 2 if the row doesn't fit, else 3 if the list with it passes a limit, else 4 if one lent area is below the need of the list with it, else 0
-unfoldable pub appendNumber : Kind → Encoding → List Row → Row → Room → ℕ
-appendNumber k e rows x room =
+-- 2 if the row doesn't fit, else 3 if the list with n of it behind passes a limit, else 4 if one lent area is below the need of that list, else 0
+unfoldable pub appendNumber : Kind → Encoding → List Row → ℕ → Row → Room → ℕ
+appendNumber k e rows n x room =
     cond (not (fits k x)) ITEM
-    (cond (not (withinLimits k e (rows ++ (x ∷ [])))) LIMIT
-    (cond (below (needOf k e (rows ++ (x ∷ []))) room) ROOM 0))
+    (cond (not (withinLimits k e (rows ++ replicate n x))) LIMIT
+    (cond (below (needOf k e (rows ++ replicate n x)) room) ROOM 0))
 
 -- what finish gives of a block: 4 if the room is shorter than the block; else the block's length, and from the room's start on the block, with what lies behind it as it was
 unfoldable pub blockDue : List ℕ → List ℕ → Answer
@@ -149,14 +150,14 @@ blockDue block out =
 
 -- of the rows accepted so far; finish gives their block
 unfoldable pub due : Kind → Encoding → ℕ → ℕ → List Row → Lent → Ask → Answer
-due k e target key rows a (append g) = appends (appendNumber k e rows (rowIn k g) (roomOf a))
+due k e target key rows a (append n g) = appends (appendNumber k e rows n (rowIn k g) (roomOf a))
 due k e target key rows a (finish out) = blockDue (blockOf k e rows) out
 due k e target key rows a estimate = estimates 0 (estimateOf k e rows)
 due k e target key rows a (shouldFinishBefore g) = asks 0 (shouldFinish k e target key rows (rowIn k g))
 
--- the rows accepted after a call: an append that is 0 adds its row, and nothing else changes them
+-- the rows accepted after a call: an append that is 0 adds its row n times, and nothing else changes them
 unfoldable pub acceptedBy : Kind → Encoding → List Row → Lent → Ask → List Row
-acceptedBy k e rows a (append g) = cond (eqb (appendNumber k e rows (rowIn k g) (roomOf a)) 0) (rows ++ (rowIn k g ∷ [])) rows
+acceptedBy k e rows a (append n g) = cond (eqb (appendNumber k e rows n (rowIn k g) (roomOf a)) 0) (rows ++ replicate n (rowIn k g)) rows
 acceptedBy k e rows a (finish out) = rows
 acceptedBy k e rows a estimate = rows
 acceptedBy k e rows a (shouldFinishBefore g) = rows
@@ -186,14 +187,22 @@ longer a more = record {
   lens = a .lens ++ more .lens;
 }
 
--- one slot more of each than the record counts, and len item bytes more: what a caller can tell without the rows
-pub record OneMore (k : Kind) (e : Encoding) (c : Counted) (len : ℕ) (a : Lent) : Type 0 where
-  pub items : c .bytes + len ≤ length (a .items)
-  pub ends : endSlots k (storedBy e c + 1) ≤ length (a .ends)
-  pub flags : flagged e ≡ true → bitmapLength (storedBy e c + 1) ≤ length (a .flags)
-  pub counts : coded e ≡ true → c .runs + 1 ≤ length (a .counts)
-  pub keys : keyed e ≡ true → c .runs + 1 ≤ length (a .keys)
-  pub lens : lenSlots k (storedBy e c + 1) ≤ length (a .lens)
+-- n equal rows are at most so many runs more: one for each 4,294,967,295 of them, rounded up
+unfoldable pub runsMore : ℕ → ℕ
+runsMore n = (n + (MOST_COUNT - 1)) / MOST_COUNT
+
+-- and at most so many stored items more: one a row, one a run, or one entry
+unfoldable pub itemsMore : Encoding → ℕ → ℕ
+itemsMore e n = cond (keyed e) (min n 1) (cond (coded e) (runsMore n) n)
+
+-- slots for so many more of each than the record counts, and len bytes for each of those items: what a caller can tell without the rows
+pub record SlotsFor (k : Kind) (e : Encoding) (c : Counted) (n len : ℕ) (a : Lent) : Type 0 where
+  pub items : c .bytes + itemsMore e n * len ≤ length (a .items)
+  pub ends : endSlots k (storedBy e c + itemsMore e n) ≤ length (a .ends)
+  pub flags : flagged e ≡ true → bitmapLength (storedBy e c + itemsMore e n) ≤ length (a .flags)
+  pub counts : coded e ≡ true → c .runs + runsMore n ≤ length (a .counts)
+  pub keys : keyed e ≡ true → c .runs + runsMore n ≤ length (a .keys)
+  pub lens : lenSlots k (storedBy e c + itemsMore e n) ≤ length (a .lens)
 
 -- each call is lent the areas that the call before left, as they are or lengthened
 abbrev pub SameOrLonger : Lent → Lent → Type 0
@@ -214,5 +223,5 @@ abbrev pub noAreas : Lent
 noAreas = record { items = []; ends = []; flags = []; counts = []; keys = []; lens = [] }
 
 -- the same append twice: on some areas, and on those lengthened
-abbrev pub triedTwice : Given → Lent → Lent → List Call
-triedTwice g a more = record { ask = append g; areas = a } ∷ record { ask = append g; areas = longer a more } ∷ []
+abbrev pub triedTwice : ℕ → Given → Lent → Lent → List Call
+triedTwice n g a more = record { ask = append n g; areas = a } ∷ record { ask = append n g; areas = longer a more } ∷ []

@@ -1,4 +1,4 @@
-mod Slots
-mod Items
+pub mod Slots
+pub mod Items
 pub mod Passed
 pub mod Refusals

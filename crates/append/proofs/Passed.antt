@@ -13,7 +13,7 @@ use mir.Syntax.{w32, w64}
 use mir.Val.{ofZ, toZ, SFits}
 use mir.Facts.{toZ-ofZ}
 use Rattle.limits.specs.Limits.{MOST_ITEMS, MOST_ENTRIES, MOST_COUNT}
-use Rattle.limits.specs.Refusals.{ITEM, LIMIT, ROOM, DISAGREE}
+use Rattle.limits.specs.Refusals.{LIMIT, ROOM}
 use Rattle.area.specs.Area.{over}
 use Rattle.encode.specs.declared.Kind.{Kind}
 use Rattle.encode.specs.declared.Kind.the-variants.{Fixed, Char, Blob}
@@ -40,7 +40,7 @@ use Rattle.step.specs.Steps.{stepOf}
 use Rattle.step.specs.Counting.{grown, nextOf, countedBy}
 use Rattle.step.proofs.Steps.{step-says, step-fits}
 use Rattle.append.specs.Appending.{Lent, lent, roomOf, heldIn, laid, Added, addedTo, addedWith, addedBy, added}
-use Rattle.append.specs.Asking.{Stores}
+use Rattle.append.specs.Asking.{Stores, Found}
 use Rattle.append.proofs.Slots.{Counts, stores, counts}
 
 -- ---- the row that was passed on as the bits of its integer shows as another, which is the same
@@ -75,7 +75,7 @@ module _ (k : Kind) (e : Encoding) (r : Counted) (a : Lent) (h : disagree k e r 
   pub are-right : recordWrong k e r ≡ false
   are-right = agree k e r (roomOf a) h .right
 
-  there : {n : ℕ} → n ≡ storedBy e r → (n ≤ MOST_ITEMS) × FieldsThere k n (heldIn a) × BytesThere k n (r .bytes) (heldIn a)
+  pub there : {n : ℕ} → n ≡ storedBy e r → (n ≤ MOST_ITEMS) × FieldsThere k n (heldIn a) × BytesThere k n (r .bytes) (heldIn a)
   unfolding roomOf
   there q =
       let g = right k e r are-right in
@@ -86,7 +86,7 @@ module _ (k : Kind) (e : Encoding) (r : Counted) (a : Lent) (h : disagree k e r 
         bytes-there k (storedBy e r) (r .bytes) (heldIn a) (bytes-right k e r are-right) (f .items),
       )
 
-  keys-there : keyed e ≡ true → (r .entries ≤ MOST_ENTRIES) × (r .runs ≤ length (a .keys))
+  pub keys-there : keyed e ≡ true → (r .entries ≤ MOST_ENTRIES) × (r .runs ≤ length (a .keys))
   unfolding roomOf
   keys-there t = (right k e r are-right .few .entries t, fitting k e r (roomOf a) (agree k e r (roomOf a) h .long) .keys t)
 
@@ -104,12 +104,6 @@ entries-there k r a h =
     (u .0, u .1, t .1, t .2)
 
 -- ---- what has been shown
--- the numbers and the areas agree, what the row comes to is found, and it fits
-pub record Found (k : Kind) (e : Encoding) (r : Counted) (a : Lent) (row : Row) (item joins : Bool) (key : ℤ) : Type 0 where
-  pub agrees : disagree k e r (roomOf a) ≡ false
-  pub step : Adds item joins key ≡ stepOf k e r (heldIn a) (a .keys) row
-  pub fit : fits k row ≡ true
-
 -- what is answered once the row is counted in
 abbrev pub CountedIn : Kind → Encoding → Counted → Lent → Row → Bool → Bool → Next → Type 0
 CountedIn k e r a row item joins n = n ≡ countedBy k e r (roomOf a) (grown e r (presence row) (length (itemOf k row)) item joins)
@@ -122,7 +116,7 @@ pub record Taken (k : Kind) (e : Encoding) (r : Counted) (a : Lent) (row : Row) 
   pub done : n .number ≡ 0
 
 -- ---- the row's flag is what it is given
-presence-of : (k : Kind) (present : Bool) (v : ℤ) (bs : List ℕ) → cond present 1 0 ≡ presence (rowOf k present v bs)
+pub presence-of : (k : Kind) (present : Bool) (v : ℤ) (bs : List ℕ) → cond present 1 0 ≡ presence (rowOf k present v bs)
 unfolding rowOf valueOf presence
 presence-of k false v bs = refl
 presence-of (Fixed p) true v bs = refl
@@ -135,24 +129,8 @@ pub counted-row :
     → n ≡ countedBy k e r m (grown e r (presence (rowOf k present v bs)) (length (itemOf k (rowOf k present v bs))) item joins)
 counted-row k e r m present v bs item joins l q = rw (← presence-of k present v bs, ← l) q
 
--- ---- the answer at each end
-module _ (k : Kind) (e : Encoding) (r : Counted) (a : Lent) (row : Row) where
-  pub not-agreed : disagree k e r (roomOf a) ≡ true → {n : Next} → n ≡ nextOf DISAGREE r → addedTo n a ≡ added k e r a row
-  unfolding added
-  not-agreed h q = rw (q, h)
-
-  module _ (h : disagree k e r (roomOf a) ≡ false) where
-    pub field-wrong : Wrong ≡ stepOf k e r (heldIn a) (a .keys) row → {n : Next} → n ≡ nextOf DISAGREE r → addedTo n a ≡ added k e r a row
-    unfolding added addedBy
-    field-wrong s q = rw (q, h, ← s)
-
-    pub not-fit :
-        {item joins : Bool} {key : ℤ} → Adds item joins key ≡ stepOf k e r (heldIn a) (a .keys) row → fits k row ≡ false
-        → {n : Next} → n ≡ nextOf ITEM r → addedTo n a ≡ added k e r a row
-    unfolding added addedBy
-    not-fit s f q = rw (q, h, ← s, f)
-
-  -- the areas are left as they are, unless the answer is 0
+-- ---- the numbers with rows counted in: 3, 4, or they are within the limits and have room; the areas are left as they are, unless the answer is 0
+module _ (k : Kind) (e : Encoding) (r : Counted) (a : Lent) where
   with-answer : (next : Counted) (after : Lent) (x y : Bool) → pastLimits k e next ≡ x → tooShort k e next (roomOf a) ≡ y
       → addedTo (countedBy k e r (roomOf a) next) (cond (eqb (countedBy k e r (roomOf a) next .number) 0) after a) ≡ addedWith k e r a next after
   unfolding addedWith countedBy
@@ -160,13 +138,25 @@ module _ (k : Kind) (e : Encoding) (r : Counted) (a : Lent) (row : Row) where
   with-answer next after false true p q = rw (p, q)
   with-answer next after false false p q = rw (p, q)
 
-  limits-kept : (next : Counted) (x y : Bool) → pastLimits k e next ≡ x → tooShort k e next (roomOf a) ≡ y → countedBy k e r (roomOf a) next .number ≡ 0
+  pub limits-kept : (next : Counted) (x y : Bool) → pastLimits k e next ≡ x → tooShort k e next (roomOf a) ≡ y → countedBy k e r (roomOf a) next .number ≡ 0
       → (pastLimits k e next ≡ false) × (tooShort k e next (roomOf a) ≡ false)
   unfolding countedBy
   limits-kept next true y p q h = absurd (omega (arith, rw p at h))
   limits-kept next false true p q h = absurd (omega (arith, rw (p, q) at h))
   limits-kept next false false p q h = (p, q)
 
+  answered : (next : Counted) (after : Lent) {n : Next} → n ≡ countedBy k e r (roomOf a) next
+      → addedTo n (cond (eqb (n .number) 0) after a) ≡ addedWith k e r a next after
+  answered next after q = rw q (with-answer next after _ _ refl refl)
+
+  pub with-refused : (next : Counted) (after : Lent) {n : Next} → n ≡ countedBy k e r (roomOf a) next → (n .number ≡ 0 → ⊥) → addedTo n a ≡ addedWith k e r a next after
+  with-refused next after {n} q d = ap (λ (b : Bool). addedTo n (cond b after a)) (sym (ne-eqb (n .number) 0 d)) ∙ answered next after q
+
+  pub with-taken : (next : Counted) (after : Lent) {n : Next} → n ≡ countedBy k e r (roomOf a) next → n .number ≡ 0 → addedTo n after ≡ addedWith k e r a next after
+  with-taken next after {n} q d = ap (λ (b : Bool). addedTo n (cond b after a)) (sym (eq-eqb (n .number) 0 d)) ∙ answered next after q
+
+-- ---- a row that is found
+module _ (k : Kind) (e : Encoding) (r : Counted) (a : Lent) (row : Row) where
   module _ {item joins : Bool} {key : ℤ} (f : Found k e r a row item joins key) where
     -- but for a dictionary, the row is stored exactly if it doesn't join; one that joins finds a run that is open
     says : (joins ≡ true → (0 < r .runs) × (r .last < MOST_COUNT)) × (keyed e ≡ false → item ≡ not joins)
@@ -175,24 +165,25 @@ module _ (k : Kind) (e : Encoding) (r : Counted) (a : Lent) (row : Row) where
     pub count-asks : (recordWrong k e r ≡ false) × (joins ≡ true → r .last < MOST_COUNT) × (keyed e ≡ false → item ≡ not joins)
     count-asks = (are-right k e r a (f .agrees), λ j. says .0 j .1, says .1)
 
+    -- its key is an i32
+    pub key-small : SFits w32 key
+    key-small = step-fits k e r (heldIn a) (a .keys) row (right k e r (are-right k e r a (f .agrees)) .few .entries) (f .step)
+
     abbrev next : Counted
     next = grown e r (presence row) (length (itemOf k row)) item joins
 
     abbrev after : Lent
     after = laid k e r row item joins key a
 
-    counted-in : addedTo (countedBy k e r (roomOf a) next) (cond (eqb (countedBy k e r (roomOf a) next .number) 0) after a) ≡ added k e r a row
+    counted-in : addedWith k e r a next after ≡ added k e r a row
     unfolding added addedBy
-    counted-in = with-answer next after _ _ refl refl ∙ rw (f .agrees, ← (f .step), f .fit)
-
-    answered : {n : Next} → n ≡ countedBy k e r (roomOf a) next → addedTo n (cond (eqb (n .number) 0) after a) ≡ added k e r a row
-    answered q = rw q counted-in
+    counted-in = rw (f .agrees, ← (f .step), f .fit)
 
     pub count-refused : {n : Next} → n ≡ countedBy k e r (roomOf a) next → (n .number ≡ 0 → ⊥) → addedTo n a ≡ added k e r a row
-    count-refused {n} q d = ap (λ (b : Bool). addedTo n (cond b after a)) (sym (ne-eqb (n .number) 0 d)) ∙ answered q
+    count-refused q d = with-refused k e r a next after q d ∙ counted-in
 
     count-done : {n : Next} → n ≡ countedBy k e r (roomOf a) next → n .number ≡ 0 → addedTo n after ≡ added k e r a row
-    count-done {n} q d = ap (λ (b : Bool). addedTo n (cond b after a)) (sym (eq-eqb (n .number) 0 d)) ∙ answered q
+    count-done q d = with-taken k e r a next after q d ∙ counted-in
 
 -- ---- once the row is taken
 module _ (k : Kind) (e : Encoding) (r : Counted) (a : Lent) (row : Row) {item joins : Bool} {key : ℤ} {len : ℕ} {n : Next}
@@ -200,7 +191,7 @@ module _ (k : Kind) (e : Encoding) (r : Counted) (a : Lent) (row : Row) {item jo
   limits : let next = grown e r (presence row) (length (itemOf k row)) item joins in (pastLimits k e next ≡ false) × (tooShort k e next (roomOf a) ≡ false)
   limits =
       let next = grown e r (presence row) (length (itemOf k row)) item joins in
-      limits-kept k e r a row next _ _ refl refl (sym (ap (λ (m : Next). m .number) (t .counted)) ∙ t .done)
+      limits-kept k e r a next _ _ refl refl (sym (ap (λ (m : Next). m .number) (t .counted)) ∙ t .done)
 
   -- the slots of its item are there
   pub item-asks :
@@ -215,10 +206,6 @@ module _ (k : Kind) (e : Encoding) (r : Counted) (a : Lent) (row : Row) {item jo
       let s = says k e r a row (t .found) in
       counts k e r a (presence row) (length (itemOf k row)) item joins (s .1) (limits .0) (limits .1) (s .0) c q
 
-  -- its key is an i32
-  key-small : SFits w32 key
-  key-small = step-fits k e r (heldIn a) (a .keys) row (right k e r (are-right k e r a (t .found .agrees)) .few .entries) (t .found .step)
-
   -- all is written
   pub row-done :
       {i : ℕ} → i ≡ storedBy e r → {f : Bool} → f ≡ flagged e → {b : Bool} → b ≡ coded e → {d : Bool} → d ≡ keyed e → {is es fs cs ls : List ℕ} {ks : List ℤ}
@@ -230,11 +217,4 @@ module _ (k : Kind) (e : Encoding) (r : Counted) (a : Lent) (row : Row) {item jo
       → addedTo n (lent is es fs cs ks ls) ≡ added k e r a row
   unfolding laid
   row-done s f c d put counts keys =
-      rw (put .0, put .1 .0, put .1 .1 .0, put .1 .1 .1, counts, keys, s, f, c, d, toZ-ofZ key-small) (count-done k e r a row (t .found) (t .counted) (t .done))
-
--- ---- the encoding that an arm names; the integer has been passed on
-pub arm :
-    (k : Kind) {e g : Encoding} (r : Counted) (a : Lent) (present : Bool) (v : ℤ) (bs : List ℕ) → SFits w64 v → e ≡ g → {x : Added}
-    → x ≡ added k g r a (rowOf k present (toZ w64 (ofZ w64 v)) bs) → x ≡ added k e r a (rowOf k present v bs)
-arm k {e} {g} r a present v bs f q h =
-    h ∙ ap (λ (z : ℤ). added k g r a (rowOf k present z bs)) (toZ-ofZ f) ∙ ap (λ (x : Encoding). added k x r a (rowOf k present v bs)) (sym q)
+      rw (put .0, put .1 .0, put .1 .1 .0, put .1 .1 .1, counts, keys, s, f, c, d, toZ-ofZ (key-small k e r a row (t .found))) (count-done k e r a row (t .found) (t .counted) (t .done))

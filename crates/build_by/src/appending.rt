@@ -1,4 +1,4 @@
-// Commands 1 and 2.
+// Commands 1, 2 and 13.
 use crate::State;
 use script::first;
 use script::number;
@@ -58,6 +58,16 @@ fn row_at(s: &[u8], at: usize) -> Given {
     }
 }
 
+// A row, and how many times one call appends it.
+fn equal_rows_at(s: &[u8], at: usize) -> Given {
+    let times = number(s, at);
+    let mut given = row_at(s, times.next);
+    let mut rows = given.rows;
+    rows.times = times.value;
+    given.rows = rows;
+    given
+}
+
 // Bytes that are given stand behind the numbers; others take none of the input.
 fn after_bytes(source: usize, at: usize, n: usize) -> usize {
     if source != 0 {
@@ -95,6 +105,7 @@ fn rows_of(s: &[u8], at: usize, command: u8) -> Given {
     match command {
         1 => row_at(s, at),
         2 => rows_at(s, at),
+        13 => equal_rows_at(s, at),
         _ => none(at),
     }
 }
@@ -115,12 +126,16 @@ fn show_turn(turn: Turn) {
     trial::show_builder(turn.builder);
 }
 
+fn appends(command: u8) -> bool {
+    match command {
+        1 | 2 | 13 => true,
+        _ => false,
+    }
+}
+
 // The state after rows that came to this.
 fn after(state: State, command: u8, given: Given, turn: Turn) -> State {
-    if 2 < command {
-        return state;
-    }
-    if command == 0 {
+    if !appends(command) {
         return state;
     }
     show_turn(turn);
@@ -130,6 +145,47 @@ fn after(state: State, command: u8, given: Given, turn: Turn) -> State {
     next.builder = builder;
     next.number = turn.number;
     next
+}
+
+// The rows of a command: all by one call, or one after another.
+fn turn_of(
+    state: State,
+    command: u8,
+    items: &mut [u8],
+    ends: &mut [u32],
+    flags: &mut [u8],
+    counts: &mut [u32],
+    keys: &mut [i32],
+    lens: &mut [u8],
+    rows: Rows,
+    text: &[u8],
+) -> Turn {
+    if command == 13 {
+        return trial::append_times(
+            state.builder,
+            state.lent,
+            items,
+            ends,
+            flags,
+            counts,
+            keys,
+            lens,
+            rows,
+            text,
+        );
+    }
+    trial::append_rows(
+        state.builder,
+        state.lent,
+        items,
+        ends,
+        flags,
+        counts,
+        keys,
+        lens,
+        rows,
+        text,
+    )
 }
 
 pub fn append<'a>(
@@ -146,9 +202,9 @@ pub fn append<'a>(
 ) -> State {
     let given = rows_of(s, state.at, command);
     let text = text_of(s, room, given);
-    let turn = trial::append_rows(
-        state.builder,
-        state.lent,
+    let turn = turn_of(
+        state,
+        command,
         items,
         ends,
         flags,

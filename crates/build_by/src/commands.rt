@@ -169,7 +169,7 @@ pub fn begin(s: &[u8], from: State, command: u8) -> State {
     state.at = past(from.at, 1);
     match command {
         0 => create(s, state),
-        1 | 2 | 3 | 7 | 11 => state,
+        1 | 2 | 3 | 7 | 11 | 13 => state,
         4 => estimate(state),
         5 => should_finish(s, state),
         6 => set(s, state),

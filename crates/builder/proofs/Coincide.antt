@@ -7,7 +7,7 @@ use lib.IntN.{ℤ}
 use Rattle.append.specs.Appending.{Lent, lent}
 use Rattle.builder.specs.declared.Builder.{Builder}
 use Rattle.builder.specs.declared.Appended.{Appended}
-use Rattle.builder.specs.Building.{Append, appended}
+use Rattle.builder.specs.Building.{Append, appendedTimes}
 use Rattle.builder.specs.Promises.{Appends}
 
 -- areas that are another's one by one
@@ -19,17 +19,17 @@ same-lent items ends flags counts keys lens a i e f c k l = whole
     whole : lent items ends flags counts keys lens ≡ lent (a .items) (a .ends) (a .flags) (a .counts) (a .keys) (a .lens)
     whole = rw (i, e, f, c, k, l)
 
-module _ (builder : Builder) (given : Lent) (present : Bool) (value : ℤ) (item : List ℕ) where
+module _ (builder : Builder) (given : Lent) (times : ℕ) (present : Bool) (value : ℤ) (item : List ℕ) where
   abbrev owed : Append
-  owed = appended builder given present value item
+  owed = appendedTimes builder given times present value item
 
   pub appends : (x : Appended) (items ends flags counts : List ℕ) (keys : List ℤ) (lens : List ℕ)
       → x ≡ owed .answer
       → items ≡ owed .areas .items → ends ≡ owed .areas .ends → flags ≡ owed .areas .flags
       → counts ≡ owed .areas .counts → keys ≡ owed .areas .keys → lens ≡ owed .areas .lens
-      → Appends builder given present value item x (lent items ends flags counts keys lens)
+      → Appends builder given times present value item x (lent items ends flags counts keys lens)
   appends x items ends flags counts keys lens a i e f c k l =
       record { answered = a; lies = same-lent items ends flags counts keys lens (owed .areas) i e f c k l }
 
-  pub one-append : (x y : Appended) (a b : Lent) → Appends builder given present value item x a → Appends builder given present value item y b → (x ≡ y) × (a ≡ b)
+  pub one-append : (x y : Appended) (a b : Lent) → Appends builder given times present value item x a → Appends builder given times present value item y b → (x ≡ y) × (a ≡ b)
   one-append x y a b p q = (p .answered ∙ sym (q .answered), p .lies ∙ sym (q .lies))

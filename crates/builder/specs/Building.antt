@@ -11,6 +11,7 @@ use Rattle.format.specs.declared.Column.the-variants.{Of, Unknown}
 use Rattle.format.specs.Blocks.{columnOf}
 use Rattle.needs.specs.declared.Counted.{Counted}
 use Rattle.append.specs.Appending.{Lent, Added, added}
+use Rattle.copies.specs.Copies.{addedTimes}
 use Rattle.builder.specs.declared.Builder.{Builder}
 use Rattle.builder.specs.declared.Created.{Created}
 use Rattle.builder.specs.declared.Created.the-variants.{New, Refused}
@@ -54,3 +55,11 @@ appendedIn (Of k e) r a present v bs = appendWith r (added k e (r .counted) a (r
 -- one row: whether it is present, its integer and its bytes
 unfoldable pub appended : Builder → Lent → Bool → ℤ → List ℕ → Append
 appended r a present v bs = appendedIn (columnOf (r .kind) (r .encoding) (r .width)) r a present v bs
+
+-- 02 (v): that row n times, all or none
+unfoldable pub appendedTimesIn : Column → Builder → Lent → ℕ → Bool → ℤ → List ℕ → Append
+appendedTimesIn Unknown r a n present v bs = appendOf DISAGREE r a
+appendedTimesIn (Of k e) r a n present v bs = appendWith r (addedTimes k e (r .counted) a n (rowOf k present v bs))
+
+unfoldable pub appendedTimes : Builder → Lent → ℕ → Bool → ℤ → List ℕ → Append
+appendedTimes r a n present v bs = appendedTimesIn (columnOf (r .kind) (r .encoding) (r .width)) r a n present v bs

@@ -137,6 +137,17 @@ key-own null es = refl
 key-own (int v) es = rw (with-entry es (int v), own (int v) es (eqb (indexOf (int v) es) (length es)) refl .0)
 key-own (bytes bs) es = rw (with-entry es (bytes bs), own (bytes bs) es (eqb (indexOf (bytes bs) es) (length es)) refl .0)
 
+-- then it is no longer new
+no-longer-new : (x : Row) (es : List Row) → isNew (withEntry es x) x ≡ false
+unfolding isNew
+no-longer-new null es = refl
+no-longer-new (int v) es =
+    let l = known-own (int v) es in
+    ne-eqb (indexOf (int v) (withEntry es (int v))) (length (withEntry es (int v))) (λ q. omega arith)
+no-longer-new (bytes bs) es =
+    let l = known-own (bytes bs) es in
+    ne-eqb (indexOf (bytes bs) (withEntry es (bytes bs))) (length (withEntry es (bytes bs))) (λ q. omega arith)
+
 known-after : (x : Row) (es rows : List Row) → Known es x → Known (entriesAfter es rows) x
 unfolding entriesAfter
 known-after x es [] h = h
@@ -156,6 +167,15 @@ unfolding keysOf entriesOf
 keys-snoc rows x =
     let es : List Row = entriesAfter [] rows in
     rw (after-snoc [] rows x, map-append (keyOf (withEntry es x)) rows (x ∷ []), same-keys es x rows (each-known [] rows), key-own x es)
+
+-- ---- the last row once more: it is no new entry, and its key stays
+pub not-new-again : (rows : List Row) (x : Row) → isNew (entriesOf (rows ++ (x ∷ []))) x ≡ false
+unfolding entriesOf
+not-new-again rows x = rw (after-snoc [] rows x) (no-longer-new x (entriesAfter [] rows))
+
+pub key-again : (rows : List Row) (x : Row) → keyOf (entriesOf (rows ++ (x ∷ []))) x ≡ keyOf (entriesOf rows) x
+unfolding entriesOf
+key-again rows x = rw (after-snoc [] rows x) (key-own x (entriesAfter [] rows))
 
 -- ---- no entry is a null
 some-entries : (es rows : List Row) → Each (λ r. presence r ≡ 1) es → Each (λ r. presence r ≡ 1) (entriesAfter es rows)

@@ -9,6 +9,7 @@ pub mod Measures
 pub mod Records
 pub mod Prefixes
 pub mod AreasOfRows
+pub mod RowAgain
 pub mod Finding
 pub mod StepOfRow
 pub mod Finishing

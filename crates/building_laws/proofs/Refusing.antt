@@ -1,4 +1,4 @@
--- For every record and all memory: a refused append or finish leaves what it was given as it was; finish, estimate and should_finish hand the record back
+-- For every record and all memory: a refused append, of one row or of n equal ones, or finish leaves what it was given as it was; finish, estimate and should_finish hand the record back
 -- as it was, refused or not. Assumes nothing.
 use Prim.Native.Nat.{ℕ}
 use mathlib.Core.Bool.{Bool, true, false, cond}
@@ -20,7 +20,8 @@ use Rattle.needs.specs.Needs.{disagree, recordWrong}
 use Rattle.sizes.specs.Sizes.{sizeBy, fullBy}
 use Rattle.append.specs.Appending.{Lent, roomOf}
 use Rattle.append.proofs.Refusals.{added-keeps}
-use Rattle.builder.specs.Building.{counting, appendedIn, appended}
+use Rattle.copies_laws.proofs.Answers.{copies-refused-keep}
+use Rattle.builder.specs.Building.{counting, appendedIn, appended, appendedTimesIn, appendedTimes}
 use Rattle.builder.specs.Finishing.{Finish, finishOf, heldBlock, finishedWith, finishedIn, finished}
 use Rattle.builder.specs.Finishing.{estimatedAs, estimatedIn, estimated, askedAs, askedIn, asked}
 
@@ -37,6 +38,22 @@ pub refused-append :
     → (appended r a present v bs .answer .builder ≡ r) × (appended r a present v bs .areas ≡ a)
 unfolding appended
 refused-append r a present v bs = in-keeps r a (columnOf (r .kind) (r .encoding) (r .width)) present v bs
+
+-- of n equal rows
+times-keep :
+    (r : Builder) (a : Lent) (n : ℕ) (c : Column) (present : Bool) (v : ℤ) (bs : List ℕ) → (appendedTimesIn c r a n present v bs .answer .number ≡ 0 → ⊥)
+    → (appendedTimesIn c r a n present v bs .answer .builder ≡ r) × (appendedTimesIn c r a n present v bs .areas ≡ a)
+unfolding appendedTimesIn
+times-keep r a n Unknown present v bs h = (refl, refl)
+times-keep r a n (Of k e) present v bs h =
+    let g = copies-refused-keep k e (r .counted) a n (rowOf k present v bs) h in
+    (ap (counting r) (g .0), g .1)
+
+pub refused-append-times :
+    (r : Builder) (a : Lent) (n : ℕ) (present : Bool) (v : ℤ) (bs : List ℕ) → (appendedTimes r a n present v bs .answer .number ≡ 0 → ⊥)
+    → (appendedTimes r a n present v bs .answer .builder ≡ r) × (appendedTimes r a n present v bs .areas ≡ a)
+unfolding appendedTimes
+refused-append-times r a n present v bs = times-keep r a n (columnOf (r .kind) (r .encoding) (r .width)) present v bs
 
 -- ---- finish
 module _ (r : Builder) (out : List ℕ) where

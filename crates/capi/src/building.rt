@@ -69,9 +69,9 @@ pub extern "C" fn idz_create_with_key_target(
     creation_of(builder::create_with_key_target(kind, encoding, width, target, keytarget))
 }
 
-// Appends one row: whether it is present, its integer for a fixed kind, its bytes for char, blob and string.
+// Appends one row so many times, all or none: whether it is present, its integer for a fixed kind, its bytes for char, blob and string.
 #[no_mangle]
-pub extern "C" fn idz_append(
+pub extern "C" fn idz_append_times(
     builder: Builder,
     items: &mut [u8],
     ends: &mut [u32],
@@ -82,14 +82,26 @@ pub extern "C" fn idz_append(
     present: u8,
     value: i64,
     item: &[u8],
+    times: usize,
 ) -> Appended
     ensures { λ r. ⌜ Appends builder
         (lent (now (items .entry)) (now (ends .entry)) (now (flags .entry)) (now (counts .entry)) (now (keys .entry)) (now (lens .entry)))
-        (not (eqb present 0)) value (now (item .entry)) r
+        times (not (eqb present 0)) value (now (item .entry)) r
         (lent (now (items .exit)) (now (ends .exit)) (now (flags .exit)) (now (counts .exit)) (now (keys .exit)) (now (lens .exit))) ⌝ }
 {
     let there = is_present(present);
-    builder.append(items, ends, flags, counts, keys, lens, there, value, item)
+    builder.append_times(
+        items,
+        ends,
+        flags,
+        counts,
+        keys,
+        lens,
+        there,
+        value,
+        item,
+        times,
+    )
 }
 
 // Writes the block that the areas hold into the room.

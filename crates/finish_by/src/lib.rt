@@ -12,7 +12,7 @@ use script::show_size;
 // Whether the cells are shown.
 fn is_shown(state: State, command: u8) -> bool {
     match command {
-        1 | 2 => is_viewed(state.view, state.number),
+        1 | 2 | 13 => is_viewed(state.view, state.number),
         10 => true,
         _ => false,
     }

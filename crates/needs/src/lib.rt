@@ -142,7 +142,7 @@ pub fn block_bytes(c: Counted, kind: Kind, e: Encoding) -> usize
     }
 }
 
-// Whether a limit is passed: by rows, by runs, by keys.
+// Whether a limit is passed: by rows, by runs, by keys; by each encoding.
 pub fn rows_past(c: Counted, kind: Kind, nullable: bool) -> bool
     requires { ⌜ c .bytes ≤ 2 * MOST_BYTES ⌝ }
     ensures { λ r. ⌜ r ≡ pastLimits kind (rowsBy nullable) c ⌝ }
@@ -180,6 +180,19 @@ pub fn keys_past(c: Counted, kind: Kind) -> bool
         return true;
     }
     limits::MOST_BYTES < keys_bytes(c, kind)
+}
+
+pub fn is_past(c: Counted, kind: Kind, e: Encoding) -> bool
+    requires { ⌜ (c .bytes ≤ 2 * MOST_BYTES) × (coded e ≡ true → c .counts ≤ 2 * MOST_BYTES) ⌝ }
+    ensures { λ r. ⌜ r ≡ pastLimits kind e c ⌝ }
+{
+    match e {
+        Encoding::Plain => rows_past(c, kind, false),
+        Encoding::Nullable => rows_past(c, kind, true),
+        Encoding::RunLength => runs_past(c, kind, false),
+        Encoding::RunLengthNullable => runs_past(c, kind, true),
+        Encoding::Dictionary => keys_past(c, kind),
+    }
 }
 
 // Whether the item bytes are not the need of `n` items. A blob's can be any, but none of no items.
@@ -318,7 +331,7 @@ pub fn keys_short(c: Counted, kind: Kind, room: Room) -> bool
     room.keys < c.runs
 }
 
-fn is_short(c: Counted, kind: Kind, e: Encoding, room: Room) -> bool
+pub fn is_short(c: Counted, kind: Kind, e: Encoding, room: Room) -> bool
     requires { ⌜ countsPast e c ≡ false ⌝ }
     ensures { λ r. ⌜ r ≡ tooShort kind e c room ⌝ }
 {

@@ -4,7 +4,7 @@ use builder::Builder;
 ghost use Rattle.append.specs.Appending.{lent};
 ghost use Rattle.builder.specs.Promises.{Appends, answerOf};
 
-// Appends one row to the builder behind the reference. A refused row leaves it as it was.
+// Appends one row so many times to the builder behind the reference. A refused call leaves it as it was.
 pub fn append(
     builder: &mut Builder,
     items: &mut [u8],
@@ -16,13 +16,25 @@ pub fn append(
     present: bool,
     value: i64,
     item: &[u8],
+    times: usize,
 ) -> u8
     ensures { λ r. ⌜ Appends (now (builder .entry))
         (lent (now (items .entry)) (now (ends .entry)) (now (flags .entry)) (now (counts .entry)) (now (keys .entry)) (now (lens .entry)))
-        present value (now (item .entry)) (answerOf r (now (builder .exit)))
+        times present value (now (item .entry)) (answerOf r (now (builder .exit)))
         (lent (now (items .exit)) (now (ends .exit)) (now (flags .exit)) (now (counts .exit)) (now (keys .exit)) (now (lens .exit))) ⌝ }
 {
-    let answer = (*builder).append(items, ends, flags, counts, keys, lens, present, value, item);
+    let answer = (*builder).append_times(
+        items,
+        ends,
+        flags,
+        counts,
+        keys,
+        lens,
+        present,
+        value,
+        item,
+        times,
+    );
     *builder = answer.builder;
     answer.number
 }
@@ -39,10 +51,11 @@ pub fn append_to(
     present: bool,
     value: i64,
     item: &[u8],
+    times: usize,
 ) -> Appended
     ensures { λ r. ⌜ Appends builder
         (lent (now (items .entry)) (now (ends .entry)) (now (flags .entry)) (now (counts .entry)) (now (keys .entry)) (now (lens .entry)))
-        present value (now (item .entry)) r
+        times present value (now (item .entry)) r
         (lent (now (items .exit)) (now (ends .exit)) (now (flags .exit)) (now (counts .exit)) (now (keys .exit)) (now (lens .exit))) ⌝ }
 {
     let mut held = builder;
@@ -57,6 +70,7 @@ pub fn append_to(
         present,
         value,
         item,
+        times,
     );
     Appended {
         number,

@@ -1,15 +1,19 @@
-// Appends an integer by the builder that append changes in place, and writes a line: the integer, the number, and what the builder has counted.
+// Appends an integer so many times by the builder that append changes in place, and writes a line: the integer, how many times, the number,
+// and what the builder has counted.
 use builder::Builder;
 use script::say;
 use show_view::byte;
 use show_view::signed;
 use show_view::size;
 
-// Of an append its integer, the number, and of the builder its rows, its runs, the last run's count and the bytes of its items.
-fn show_append(value: i64, number: u8, b: Builder) {
+// Of an append its integer, how many times, the number, and of the builder its rows, its runs, the last run's count and the bytes of its
+// items.
+fn show_append(value: i64, times: usize, number: u8, b: Builder) {
     let counted = b.counted;
     say(b"append");
     signed(value);
+    say(b" times");
+    size(times);
     say(b":");
     byte(number);
     say(b" builder");
@@ -20,7 +24,7 @@ fn show_append(value: i64, number: u8, b: Builder) {
     say(b"\n");
 }
 
-// Appends one integer: the number, and the builder.
+// The builder with the integer appended.
 pub fn append(
     builder: Builder,
     items: &mut [u8],
@@ -30,6 +34,7 @@ pub fn append(
     keys: &mut [i32],
     lens: &mut [u8],
     value: i64,
+    times: usize,
 ) -> Builder {
     let none = [0u8; 1];
     let answer = server::append_to(
@@ -43,8 +48,9 @@ pub fn append(
         true,
         value,
         &none,
+        times,
     );
     let next = answer.builder;
-    show_append(value, answer.number, next);
+    show_append(value, times, answer.number, next);
     next
 }

@@ -30,7 +30,7 @@ fn growth(last: usize) -> usize
 // ---- rows
 
 // With a row that has an item of `len` bytes.
-fn grown_row(c: Counted, len: usize) -> Counted
+pub fn grown_row(c: Counted, len: usize) -> Counted
     requires { ⌜ (c .rows ≤ MOST_ITEMS) × (c .bytes ≤ MOST_BYTES) × (len ≤ MOST_BYTES) ⌝ }
     ensures { λ r. ⌜ r ≡ grownBy Plain c 0 len true false ⌝ }
 {
@@ -68,7 +68,7 @@ pub fn row_counted(c: Counted, kind: Kind, nullable: bool, room: Room, len: usiz
 
 // ---- runs and keys: the fields that a row changes
 
-fn next_entries(c: Counted, stored: bool) -> usize
+pub fn next_entries(c: Counted, stored: bool) -> usize
     requires { ⌜ c .entries ≤ MOST_ENTRIES ⌝ }
     ensures { λ r. ⌜ r ≡ cond stored (c .entries + 1) (c .entries) ⌝ }
 {
@@ -88,7 +88,7 @@ fn next_bytes(c: Counted, len: usize, stored: bool) -> usize
     c.bytes
 }
 
-fn next_null(present: bool) -> usize
+pub fn next_null(present: bool) -> usize
     ensures { λ r. ⌜ r ≡ 1 - cond present 1 0 ⌝ }
 {
     if present {
@@ -98,7 +98,7 @@ fn next_null(present: bool) -> usize
 }
 
 // With a row that has an item of `len` bytes: whether that is stored, and whether the row joins the last run.
-fn grown_run(
+pub fn grown_run(
     c: Counted,
     entries: usize,
     present: bool,
@@ -134,7 +134,7 @@ fn grown_run(
 }
 
 // Whether an item that is stored is longer than any block.
-fn too_long(stored: bool, len: usize) -> bool
+pub fn too_long(stored: bool, len: usize) -> bool
     ensures { λ r. ⌜ r ≡ (stored && ltb MOST_BYTES len) ⌝ }
 {
     if stored {

@@ -17,7 +17,7 @@ ghost use Rattle.step.specs.Steps.{runOpen, joinsRun, runStep, joinsKey,
 // ---- encodings 2 and 3: the last item
 
 // Whether there is a run that can take one row more.
-fn run_open(c: Counted) -> bool
+pub fn run_open(c: Counted) -> bool
     ensures { λ r. ⌜ r ≡ runOpen c ⌝ }
 {
     if c.runs == 0 {

@@ -2,10 +2,16 @@
 mod counting;
 mod finding;
 
+pub use counting::grown_row;
+pub use counting::grown_run;
 pub use counting::key_counted;
+pub use counting::next_entries;
+pub use counting::next_null;
 pub use counting::row_counted;
 pub use counting::run_counted;
+pub use counting::too_long;
 pub use finding::key_step;
+pub use finding::run_open;
 pub use finding::run_step;
 use needs::Counted;
 

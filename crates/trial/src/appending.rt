@@ -1,4 +1,4 @@
-// Rows appended one after another.
+// Rows appended one after another, or all by one call.
 use crate::Rows;
 use crate::Turn;
 use builder::Appended;
@@ -166,4 +166,42 @@ pub fn append_rows(
         left = left_after(turn, left);
     }
     turn
+}
+
+// The turn after a call that appends all the rows or none.
+fn after_all(rows: Rows, answer: Appended) -> Turn {
+    let mut turn = first_turn(answer.builder, rows);
+    turn.number = answer.number;
+    if answer.number == 0 {
+        turn.done = rows.times;
+    }
+    turn
+}
+
+// The first row so many times, by one call.
+pub fn append_times(
+    builder: Builder,
+    lent: Lent,
+    items: &mut [u8],
+    ends: &mut [u32],
+    flags: &mut [u8],
+    counts: &mut [u32],
+    keys: &mut [i32],
+    lens: &mut [u8],
+    rows: Rows,
+    text: &[u8],
+) -> Turn {
+    let answer = builder.append_times(
+        lent_bytes(items, lent.items),
+        lent_words(ends, lent.ends),
+        lent_bytes(flags, lent.flags),
+        lent_words(counts, lent.counts),
+        lent_ints(keys, lent.keys),
+        lent_bytes(lens, lent.lens),
+        rows.presence != 0,
+        encode::of_bits(rows.start),
+        text,
+        rows.times,
+    );
+    after_all(rows, answer)
 }

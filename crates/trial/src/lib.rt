@@ -1,9 +1,10 @@
 // What the programs share that build by the commands of standard input: the builder's record made and shown, and rows appended one
-// after another.
+// after another or by one call.
 mod appending;
 mod record;
 
 pub use appending::append_rows;
+pub use appending::append_times;
 pub use appending::ask;
 pub use appending::show_bool;
 pub use record::no_builder;

@@ -3,10 +3,10 @@
 ghost use mathlib.Core.Path.{_≡_};
 ghost use lib.ListN.{length};
 
-pub fn commands() -> [u8; 300000]
-    ensures { λ r. ⌜ 300000 ≡ length r ⌝ }
+pub fn commands() -> [u8; 500000]
+    ensures { λ r. ⌜ 500000 ≡ length r ⌝ }
 {
-    [0; 300000]
+    [0; 500000]
 }
 
 pub fn items() -> [u8; 1048640]

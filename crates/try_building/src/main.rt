@@ -16,6 +16,7 @@
 // 10 shows the cells.
 // 11 shows of every area, to its end, the sum of its cells and the sum of such sums from the start to each cell.
 // 12 creates a builder with a key target: kind, encoding, width, target, key target.
+// 13 appends a row so many times, by one call: how many; presence, the integer, the number of bytes; those bytes.
 //
 // The areas are 0 items, 1 ends, 2 flags, 3 counts, 4 keys, 5 lengths, 6 the room. Shown are the lent cells and two past them.
 // Presence is 0 for a null, 1 for a row that is there; in 2 also 2: a null where the first integer comes again.

@@ -15,13 +15,24 @@ fn show_finish(number: u8, len: usize) {
     say(b"\n");
 }
 
-// Sample A, row by row; then a row that is too large for its kind, and one that has no room: the integer with so many left to append.
+// Sample A: 7, once and twice more, and -1; then a row that is too large for its kind, and one that has no room, each once and no times;
+// and one that would fill its run and begin another, which has no room. The integer with so many left to append.
 fn value(left: usize) -> i64 {
     match left {
-        1 => 8,
-        2 => 2147483648,
-        3 => -1,
+        1 | 6 => -1,
+        2 | 3 => 8,
+        4 | 5 => 2147483648,
         _ => 7,
+    }
+}
+
+// How many times it is appended.
+fn times(left: usize) -> usize {
+    match left {
+        1 => 4294967295,
+        2 | 4 => 0,
+        7 => 2,
+        _ => 1,
     }
 }
 
@@ -35,9 +46,19 @@ fn append_all(
     lens: &mut [u8],
 ) -> Builder {
     let mut next = builder;
-    let mut left: usize = 6;
+    let mut left: usize = 8;
     while 0 < left {
-        next = append(next, items, ends, flags, counts, keys, lens, value(left));
+        next = append(
+            next,
+            items,
+            ends,
+            flags,
+            counts,
+            keys,
+            lens,
+            value(left),
+            times(left),
+        );
         left -= 1;
     }
     next

@@ -5,6 +5,7 @@ use mathlib.Core.Bool.{Bool, true, false, cond}
 use mathlib.Core.List.{List, [], _∷_, _++_, append-assoc, append-nil}
 use mathlib.Core.Path.{_≡_, refl, sym, ap, _∙_}
 use lib.Dec.{eqb}
+use lib.ListN.{replicate}
 use Rattle.encode.specs.declared.Kind.{Kind}
 use Rattle.plain.specs.Rows.{Row}
 use Rattle.format.specs.declared.Encoding.{Encoding}
@@ -14,13 +15,13 @@ use Rattle.any_building_laws.specs.BuilderCalls.{Ask, append, finish, estimate,
 use Rattle.whole_way_laws.specs.WholeWay.{rowIfDone, rowsDone}
 
 module _ (k : Kind) (e : Encoding) (target key : ℕ) where
-  one-or-none : (t : Bool) (rows : List Row) (x : Row) → cond t (rows ++ (x ∷ [])) rows ≡ rows ++ cond t (x ∷ []) []
-  one-or-none true rows x = refl
-  one-or-none false rows x = sym (append-nil rows)
+  all-or-none : (t : Bool) (rows more : List Row) → cond t (rows ++ more) rows ≡ rows ++ cond t more []
+  all-or-none true rows more = refl
+  all-or-none false rows more = sym (append-nil rows)
 
   one-done : (rows : List Row) (a : Lent) (q : Ask) → acceptedBy k e rows a q ≡ rows ++ rowIfDone k q (due k e target key rows a q)
   unfolding acceptedBy rowIfDone due numberIn
-  one-done rows a (append v) = one-or-none (eqb (appendNumber k e rows (rowIn k v) (roomOf a)) 0) rows (rowIn k v)
+  one-done rows a (append n v) = all-or-none (eqb (appendNumber k e rows n (rowIn k v) (roomOf a)) 0) rows (replicate n (rowIn k v))
   one-done rows a (finish out) = sym (append-nil rows)
   one-done rows a estimate = sym (append-nil rows)
   one-done rows a (shouldFinishBefore v) = sym (append-nil rows)

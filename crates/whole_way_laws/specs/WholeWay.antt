@@ -3,7 +3,7 @@ use Prim.Native.Nat.{ℕ}
 use mathlib.Core.Bool.{cond}
 use mathlib.Core.List.{List, [], _∷_, _++_}
 use lib.Dec.{eqb}
-use lib.ListN.{length, take}
+use lib.ListN.{length, take, replicate}
 use Rattle.encode.specs.declared.Kind.{Kind}
 use Rattle.plain.specs.Rows.{Row}
 use Rattle.append.specs.Appending.{Lent}
@@ -16,7 +16,7 @@ use Rattle.block.specs.Calls.{Call as ReaderCall, Answer as ReaderAnswer, playO
 
 -- ---- the rows accepted, as the caller sees them: those of the appends that were answered with 0, in order
 unfoldable pub rowIfDone : Kind → Ask → BuilderAnswer → List Row
-rowIfDone k (append g) x = cond (eqb (numberIn x) 0) (rowIn k g ∷ []) []
+rowIfDone k (append n g) x = cond (eqb (numberIn x) 0) (replicate n (rowIn k g)) []
 rowIfDone k (finish out) x = []
 rowIfDone k estimate x = []
 rowIfDone k (shouldFinishBefore g) x = []

@@ -40,10 +40,16 @@ fn parts<'a>(kind: Kind, row: Row<'a>) -> Result<(bool, i64, &'a [u8]), Refusal>
     }
 }
 
-/// Makes an area long enough for a need, and then some, so that growing is rare.
-fn grow<T: Clone + Default>(area: &mut Vec<T>, need: usize) -> Result<(), Refusal> {
-    if need > area.len() {
-        let len = need.max(area.len().saturating_mul(2)).max(64);
+/// The most that a block can have: bytes, stored items or runs, a dictionary's entries, and rows in one run.
+const MOST_BYTES: usize = 1 << 24;
+const MOST_ITEMS: usize = 1 << 20;
+const MOST_ENTRIES: usize = 1 << 16;
+const MOST_COUNT: usize = u32::MAX as usize;
+
+/// Makes an area long enough for a need, and then some, so that growing is rare; never longer than the most that a block can have of it.
+fn grow<T: Clone + Default>(area: &mut Vec<T>, need: usize, most: usize) -> Result<(), Refusal> {
+    if need.min(most) > area.len() {
+        let len = need.max(area.len().saturating_mul(2)).max(64).min(most);
         area.try_reserve_exact(len - area.len()).map_err(|_| Refusal::Room)?;
         area.resize(len, T::default());
     }
@@ -141,7 +147,7 @@ impl Builder {
         self.record.rows as u64
     }
 
-    fn call(&mut self, row: (bool, i64, &[u8])) -> calls::Appended {
+    fn call(&mut self, row: (bool, i64, &[u8]), times: usize) -> calls::Appended {
         let areas = Areas {
             items: &mut self.items,
             ends: &mut self.ends,
@@ -150,39 +156,46 @@ impl Builder {
             keys: &mut self.keys,
             lens: &mut self.lens,
         };
-        calls::append(self.record, areas, row.0, row.1, row.2)
+        calls::append_times(self.record, areas, row.0, row.1, row.2, times)
     }
 
-    /// Makes room for one row more.
-    fn make_room(&mut self, item_len: usize) -> Result<(), Refusal> {
+    /// Makes room for a row so many times, as much as it takes if it joins no run and is no entry yet. The call has been refused as 4, and so
+    /// wasn't 3: the block can have these rows, and what they need is within its limits.
+    fn make_room(&mut self, item_len: usize, times: usize) -> Result<(), Refusal> {
         let record = self.record;
         let encoding = self.column.encoding;
         let coded = !matches!(encoding, Encoding::Plain | Encoding::Nullable);
-        let stored = match encoding {
-            Encoding::Plain | Encoding::Nullable => record.rows,
-            Encoding::RunLength | Encoding::RunLengthNullable => record.runs,
-            Encoding::Dictionary => record.entries,
+        let more_runs = times.div_ceil(MOST_COUNT);
+        let (stored, more, most) = match encoding {
+            Encoding::Plain | Encoding::Nullable => (record.rows, times, MOST_ITEMS),
+            Encoding::RunLength | Encoding::RunLengthNullable => (record.runs, more_runs, MOST_ITEMS),
+            Encoding::Dictionary => (record.entries, 1, MOST_ENTRIES),
         };
         let item = match self.column.kind {
-            Kind::Blob | Kind::String => item_len,
+            Kind::Bool => 1,
+            Kind::I16 => 2,
+            Kind::I32 | Kind::Date => 4,
+            Kind::I64 | Kind::Timestamp | Kind::TimestampTz | Kind::Interval | Kind::F64 => 8,
             Kind::Char(width) => usize::from(width),
-            _ => 8,
+            Kind::Blob | Kind::String => item_len,
         };
-        grow(&mut self.items, record.bytes.saturating_add(item))?;
+        let stored = stored.saturating_add(more);
+        let runs = record.runs.saturating_add(more_runs);
+        grow(&mut self.items, record.bytes.saturating_add(item.saturating_mul(more)), MOST_BYTES)?;
         if matches!(self.column.kind, Kind::Blob | Kind::String) {
-            grow(&mut self.ends, stored + 1)?;
+            grow(&mut self.ends, stored, most)?;
         }
         if matches!(self.column.kind, Kind::Char(_)) {
-            grow(&mut self.lens, stored + 1)?;
+            grow(&mut self.lens, stored, most)?;
         }
         if matches!(encoding, Encoding::Nullable | Encoding::RunLengthNullable) {
-            grow(&mut self.flags, stored / 8 + 1)?;
+            grow(&mut self.flags, stored.div_ceil(8), most / 8)?;
         }
         if coded {
-            grow(&mut self.counts, record.runs + 1)?;
+            grow(&mut self.counts, runs, MOST_ITEMS)?;
         }
         if encoding == Encoding::Dictionary {
-            grow(&mut self.keys, record.runs + 1)?;
+            grow(&mut self.keys, runs, MOST_ITEMS)?;
         }
         Ok(())
     }
@@ -190,11 +203,51 @@ impl Builder {
     /// Appends a row. A refused row changes nothing: [`Refusal::Item`] if the row doesn't fit the kind, [`Refusal::Limit`] if the
     /// block would pass a limit. A row of char or string is given by its bytes or, with `into`, as `&str`.
     pub fn append(&mut self, row: Row<'_>) -> Result<(), Refusal> {
+        self.append_times(row, 1)
+    }
+
+    /// Appends a row `n` times, all or none; done, it leaves what `n` single appends do. In runs and dictionaries many rows take no longer
+    /// than one, but for a run more every 4,294,967,295 rows.
+    ///
+    /// Refused as a single row is: [`Refusal::Item`] if the row doesn't fit the kind, also if `n` is 0, which else changes nothing;
+    /// [`Refusal::Limit`] if the block would pass a limit with all these rows, and then no memory is set aside for them.
+    /// [`Builder::should_finish`] asks of one next row: a plain or nullable block can pass its target by `n - 1` items.
+    ///
+    /// A payment schedule, three months without a payment and 360 with the same:
+    ///
+    /// ```
+    /// use idzulgar::{Builder, Column, Encoding, Kind, Reader, Refusal, Row, Value};
+    ///
+    /// let column = Column::new(Kind::I64, Encoding::RunLengthNullable);
+    /// let mut builder = Builder::new(column, 4096)?;
+    /// builder.append_times(Row::Null, 3)?;
+    /// builder.append_times(Row::Int(89_123), 360)?;
+    /// assert_eq!(builder.rows(), 363);
+    /// let block = builder.finish()?;
+    ///
+    /// // the same block as by single appends
+    /// let mut one_by_one = Builder::new(column, 4096)?;
+    /// for month in 0..363 {
+    ///     one_by_one.append(if month < 3 { Row::Null } else { Row::Int(89_123) })?;
+    /// }
+    /// assert_eq!(one_by_one.finish()?, block);
+    /// let last: Result<Vec<Value>, Refusal> = Reader::open(column, 363, block)?.rows_after(361).collect();
+    /// assert_eq!(last?, [Value::Int(89_123), Value::Int(89_123)]);
+    ///
+    /// // all or none: a block has at most 281,474,976,710,655 rows
+    /// assert_eq!(builder.append_times(Row::Int(89_123), (1 << 48) - 363), Err(Refusal::Limit));
+    /// assert_eq!(builder.rows(), 363);
+    /// builder.append_times(Row::Int(89_123), (1 << 48) - 364)?;
+    /// assert_eq!(builder.rows(), (1 << 48) - 1);
+    /// # Ok::<(), Refusal>(())
+    /// ```
+    pub fn append_times(&mut self, row: Row<'_>, n: u64) -> Result<(), Refusal> {
         let row = parts(self.column.kind, row)?;
-        let mut answer = self.call(row);
+        let times = usize::try_from(n).map_err(|_| Refusal::Limit)?;
+        let mut answer = self.call(row, times);
         if Refusal::check(answer.number) == Err(Refusal::Room) {
-            self.make_room(row.2.len())?;
-            answer = self.call(row);
+            self.make_room(row.2.len(), times)?;
+            answer = self.call(row, times);
         }
         Refusal::check(answer.number)?;
         self.record = answer.builder;

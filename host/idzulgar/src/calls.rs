@@ -208,7 +208,7 @@ extern "C" {
     fn idz_remaining(reader: ReaderRecord) -> Left;
     fn idz_create(kind: usize, encoding: usize, width: usize, target: usize) -> Creation;
     fn idz_create_with_key_target(kind: usize, encoding: usize, width: usize, target: usize, key_target: usize) -> Creation;
-    fn idz_append(
+    fn idz_append_times(
         builder: BuilderRecord,
         items: *mut u8,
         items_len: usize,
@@ -226,6 +226,7 @@ extern "C" {
         value: i64,
         item: *const u8,
         item_len: usize,
+        times: usize,
     ) -> Appended;
     fn idz_finish(
         builder: BuilderRecord,
@@ -327,9 +328,15 @@ pub fn create_with_key_target(kind: usize, encoding: usize, width: usize, target
 
 /// Appends one row: whether it is present, its integer for a fixed kind, its bytes for char, blob and string.
 pub fn append(builder: BuilderRecord, areas: Areas<'_>, present: bool, value: i64, item: &[u8]) -> Appended {
+    append_times(builder, areas, present, value, item, 1)
+}
+
+/// Appends one row so many times, all or none. Of 0 times the row is tested and nothing changes.
+#[inline] // else a single append would be a call more
+pub fn append_times(builder: BuilderRecord, areas: Areas<'_>, present: bool, value: i64, item: &[u8], times: usize) -> Appended {
     // SAFETY: see the head of this file.
     unsafe {
-        idz_append(
+        idz_append_times(
             builder,
             areas.items.as_mut_ptr(),
             areas.items.len(),
@@ -347,6 +354,7 @@ pub fn append(builder: BuilderRecord, areas: Areas<'_>, present: bool, value: i6
             value,
             item.as_ptr(),
             item.len(),
+            times,
         )
     }
 }

@@ -1,9 +1,10 @@
 //! Column blocks of risinglight (plain, nullable, run-length, dictionary), built and read by proved code.
 //!
 //! The work is done by a static library whose every answer is proved: a row, or a refusal with its number. This crate adds what a
-//! Rust service expects around it: a [`Builder`] that keeps its memory, a [`Reader`] that keeps its block, a [`Refusal`] that says
-//! what a number means, rows by batch or by iterator, a [count of the nulls](Reader::nulls) among them, a [`Sheet`] of many columns
-//! in one file, and the rows in which two columns differ ([`compare`]). No function here panics, whatever the block holds, and memory grows only as the caller asks.
+//! Rust service expects around it: a [`Builder`] that keeps its memory and takes [equal rows by their number](Builder::append_times), a
+//! [`Reader`] that keeps its block, a [`Refusal`] that says what a number means, rows by batch or by iterator, a
+//! [count of the nulls](Reader::nulls) among them, a [`Sheet`] of many columns in one file, and the rows in which two columns differ
+//! ([`compare`]). No function here panics, whatever the block holds, and memory grows only as the caller asks.
 //!
 //! ```
 //! use idzulgar::{Column, Encoding, Kind, Reader, Refusal, Value};

@@ -3,100 +3,10 @@
 //! counts; behind them lies noise.
 mod model;
 
-use idzulgar::calls::{self, Areas, BuilderRecord};
-use idzulgar::{Column, Encoding, Kind, Value};
+use idzulgar::calls::{self, BuilderRecord};
+use idzulgar::{Column, Value};
+use model::memory::{needs, parts, unfit, Memory};
 use model::Chance;
-
-#[derive(Clone, PartialEq, Debug)]
-struct Memory {
-    items: Vec<u8>,
-    ends: Vec<u32>,
-    flags: Vec<u8>,
-    counts: Vec<u32>,
-    keys: Vec<i32>,
-    lens: Vec<u8>,
-}
-
-/// The slots that a record counts, area by area.
-fn needs(column: Column, record: &BuilderRecord) -> [usize; 6] {
-    let stored = match column.encoding {
-        Encoding::Plain | Encoding::Nullable => record.rows,
-        Encoding::RunLength | Encoding::RunLengthNullable => record.runs,
-        Encoding::Dictionary => record.entries,
-    };
-    let flagged = matches!(column.encoding, Encoding::Nullable | Encoding::RunLengthNullable);
-    let keyed = column.encoding == Encoding::Dictionary;
-    [
-        record.bytes,
-        if matches!(column.kind, Kind::Blob | Kind::String) { stored } else { 0 },
-        if flagged { stored.div_ceil(8) } else { 0 },
-        record.runs,
-        if keyed { record.runs } else { 0 },
-        if matches!(column.kind, Kind::Char(_)) { stored } else { 0 },
-    ]
-}
-
-/// The first slots of an area, and noise behind them.
-fn carried<T: Clone>(area: &[T], count: usize, more: usize, mut noise: impl FnMut() -> T) -> Vec<T> {
-    let mut all = area[..count].to_vec();
-    all.extend((0..more).map(|_| noise()));
-    all
-}
-
-impl Memory {
-    fn none() -> Memory {
-        Memory { items: vec![], ends: vec![], flags: vec![], counts: vec![], keys: vec![], lens: vec![] }
-    }
-
-    fn lent(&mut self) -> Areas<'_> {
-        let Memory { items, ends, flags, counts, keys, lens } = self;
-        Areas { items, ends, flags, counts, keys, lens }
-    }
-
-    fn lengths(&self) -> [usize; 6] {
-        [self.items.len(), self.ends.len(), self.flags.len(), self.counts.len(), self.keys.len(), self.lens.len()]
-    }
-
-    /// Other memory that holds the counted slots, with so many more of each behind them.
-    fn moved(&self, column: Column, record: &BuilderRecord, more: [usize; 6], chance: &mut Chance) -> Memory {
-        let held = needs(column, record);
-        let mut flags = carried(&self.flags, held[2], more[2], || chance.number() as u8);
-        let stored = if column.encoding == Encoding::Nullable { record.rows } else { record.runs };
-        if held[2] > 0 && stored % 8 > 0 {
-            // bits behind the last item's are no slots of the record
-            flags[held[2] - 1] ^= (chance.number() as u8) << (stored % 8);
-        }
-        Memory {
-            items: carried(&self.items, held[0], more[0], || chance.number() as u8),
-            ends: carried(&self.ends, held[1], more[1], || chance.number() as u32),
-            flags,
-            counts: carried(&self.counts, held[3], more[3], || chance.number() as u32),
-            keys: carried(&self.keys, held[4], more[4], || chance.number() as i32),
-            lens: carried(&self.lens, held[5], more[5], || chance.number() as u8),
-        }
-    }
-}
-
-fn parts(value: &Value) -> (bool, i64, &[u8]) {
-    match value {
-        Value::Null => (false, 0, &[]),
-        Value::Int(value) => (true, *value, &[]),
-        Value::Bytes(bytes) => (true, 0, bytes),
-        Value::F64(value) => (true, value.to_bits() as i64, &[]),
-    }
-}
-
-/// A row that doesn't fit the kind, where there is one.
-fn unfit(kind: Kind, chance: &mut Chance) -> Option<Value> {
-    match kind {
-        Kind::Bool => Some(Value::Int(2)),
-        Kind::I16 => Some(Value::Int(-32_769)),
-        Kind::I32 | Kind::Date => Some(Value::Int(1 << 31)),
-        Kind::Char(width) if chance.one_in(2) => Some(Value::Bytes(vec![b'a'; usize::from(width) + 1])),
-        Kind::Char(_) | Kind::String => Some(Value::Bytes(vec![0xC3])),
-        _ => None,
-    }
-}
 
 /// Finish, estimate and should_finish say what the accepted rows say, and hand the builder back.
 fn ask(

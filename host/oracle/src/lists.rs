@@ -98,6 +98,19 @@ pub fn judged_rows(kind: Kind, most: u64, chance: &mut Chance) -> Vec<Value> {
     model::some_rows(kind, most, chance).into_iter().map(judged).collect()
 }
 
+/// Such rows, each with how many times it is appended: at most 300, at times none, and often where a count takes a byte more.
+pub fn judged_times(kind: Kind, most: u64, chance: &mut Chance) -> Vec<(Value, u64)> {
+    let times = |chance: &mut Chance| match chance.below(8) {
+        0 => 0,
+        1 => 1,
+        2 | 3 => 2 + chance.below(8),
+        4 => 120 + chance.below(16),
+        5 => 300,
+        _ => chance.below(301),
+    };
+    judged_rows(kind, most, chance).into_iter().map(|row| (row, times(chance))).collect()
+}
+
 /// What the original takes for one value and the port for two: the zeros, or NaNs.
 #[derive(Clone, Copy, PartialEq)]
 pub enum Alike {

@@ -2,7 +2,7 @@
 use borrow.Author.Needs.{needs}
 use Rattle.needs.proofs.Encodings.{rows-told, runs-told}
 use Rattle.append.specs.Appending.{Lent, lent}
-use Rattle.append.proofs.Passed as laws
+use Rattle.append_runs.proofs.Ways.{arm}
 use Rattle.append_block.proofs.to_block.Statement.{statement}
 use Rattle.append_block.proofs.to_block.Tie as tie
 
@@ -11,12 +11,13 @@ areas s = let a = s .args in lent (a .items .now) (a .ends .now) (a .flags .now)
 
 returns : tie.Need-returns
 returns c =
-    let w = c .before .before .before .before .before .before .before .before in
+    let t = c .before .before .before .before .before .before .before .before in
+    let w = t .before .before .before in
     let f = w .before .before .before .before .before .before .before in
     let m = f .before in
     let s = m .before .before .before .before .before .before .before in
     let a = s .args in
-    laws.arm (a .kind) (a .c) (areas s) (a .present) (a .value) (a .item .now) (s .fits .value)
+    arm (a .kind) (a .c) (areas s) (a .n) (a .present) (a .value) (a .item .now) (s .fits .value)
     (rows-told (a .encoding) (m .match .keys1) (f .is-flagged .ensures)) (w .to-rows .ensures)
 
 returns-2 : tie.Need-returns-2
@@ -27,7 +28,7 @@ returns-2 c =
     let m = f .before in
     let s = m .before .before .before .before .before .before .before in
     let a = s .args in
-    laws.arm (a .kind) (a .c) (areas s) (a .present) (a .value) (a .item .now) (s .fits .value)
+    arm (a .kind) (a .c) (areas s) (a .n) (a .present) (a .value) (a .item .now) (s .fits .value)
     (runs-told (a .encoding) (m .match .keys2) (f .is-flagged2 .ensures)) (w .to-runs .ensures)
 
 returns-3 : tie.Need-returns-3
@@ -37,7 +38,7 @@ returns-3 c =
     let e = w .before .before .before .before .before .before .before in
     let s = e .before .before .before .before .before .before .before .before in
     let a = s .args in
-    laws.arm (a .kind) (a .c) (areas s) (a .present) (a .value) (a .item .now) (s .fits .value) (e .enum-told .given .1) (w .to-keys .ensures)
+    arm (a .kind) (a .c) (areas s) (a .n) (a .present) (a .value) (a .item .now) (s .fits .value) (e .enum-told .given .1) (w .to-keys .ensures)
 
 pub to-block-spec : {M : Type 1} → statement M
 to-block-spec =

@@ -1,5 +1,5 @@
 -- `append_block::to_keys` meets its contract: each test's fact is said once, at its place, and each return cites what the tests have shown. Assumes nothing.
-use mathlib.Core.Path.{_≡_, sym, ap, _∙_}
+use mathlib.Core.Path.{_≡_, refl, sym, ap, _∙_}
 use mathlib.Core.Bool.{true, false}
 use lib.IntN.{ℤ}
 use lib.ListN.{length}
@@ -10,16 +10,16 @@ use mir.Val.{ofZ, toZ}
 use mir.Facts.{toZ-ofZ}
 use Rattle.plain.specs.Rows.{Row, rowOf, fits}
 use Rattle.plain.specs.Plain.{itemOf}
-use Rattle.needs.specs.Needs.{disagree}
 use Rattle.format.specs.declared.Encoding.the-variants.{Dictionary}
-use Rattle.needs.proofs.Encodings.{keys-stored, keys-flagged, keys-coded, keys-keyed}
+use Rattle.needs.specs.Needs.{disagree}
 use Rattle.step.specs.declared.Step.the-variants.{Row as Adds}
 use Rattle.step.specs.Steps.{keyStep, stepOf}
 use Rattle.step.proofs.Steps.{step-keys}
 use Rattle.append.specs.Appending.{Lent, lent, roomOf, heldIn}
-use Rattle.append.specs.Asking.{Stores}
+use Rattle.append.specs.Asking.{Found}
 use Rattle.append.proofs.Passed as laws
-use Rattle.append.proofs.Passed.{Found, Taken}
+use Rattle.copies.proofs.Refused as refused
+use Rattle.append_runs.proofs.Ways as ways
 use Rattle.append_block.proofs.to_keys.Statement.{statement}
 use Rattle.append_block.proofs.to_keys.Tie as tie
 
@@ -36,15 +36,12 @@ passed s = let a = s .args in ap (λ (v : ℤ). rowOf (a .kind) (a .present) v (
 abbrev start : tie.Else1 → tie.Start
 start c = c .before .before .before .before .before .before .before .before
 
--- where the step is known, and where the row is taken
+-- where the step is known, and where the row is found
 abbrev first : tie.After-known-told → tie.Else1
 first c = c .before .before .before .before .before .before .before .before
 
-abbrev known : tie.After-key-counted → tie.After-known-told
-known c = c .before .before .before .before
-
-abbrev at : tie.After-key-counted → tie.Start
-at c = start (first (known c))
+abbrev known : tie.After-item-len → tie.After-known-told
+known c = c .before .before .before
 
 -- ---- the fact of each test
 agrees : (c : tie.Else1) → let s = start c in disagree (s .args .kind) Dictionary (s .args .c) (roomOf (areas s)) ≡ false
@@ -72,22 +69,8 @@ found : (c : tie.Else2) → let s = start (first (c .before .before)) in let g =
     Found (s .args .kind) Dictionary (s .args .c) (areas s) (row s) (g .0) (g .1 .0) (g .1 .1 .0)
 found c = record { agrees = agrees (first (c .before .before)); step = step (c .before .before); fit = fit c }
 
-long : (c : tie.After-item-len) → let s = start (first (c .before .before .before)) in c .item-len .result ≡ length (itemOf (s .args .kind) (row s))
-long c = let s = start (first (c .before .before .before)) in c .item-len .ensures ∙ ap (λ (x : Row). length (itemOf (s .args .kind) x)) (passed s)
-
-counted : (c : tie.After-key-counted) → let s = at c in let g = known c .before .found .given .0 in
-    laws.CountedIn (s .args .kind) Dictionary (s .args .c) (areas s) (row s) (g .0) (g .1 .0) (c .key-counted .result)
-unfolding roomOf
-counted c =
-    let s = at c in
-    let a = s .args in
-    let g = known c .before .found .given .0 in
-    laws.counted-row (a .kind) Dictionary (a .c) (roomOf (areas s)) (a .present) (a .value) (a .item .now) (g .0) (g .1 .0) (long (c .before))
-    (c .key-counted .ensures)
-
-taken : (c : tie.Else3) → let n = c .before .before in let s = at n in let g = known n .before .found .given .0 in
-    Taken (s .args .kind) Dictionary (s .args .c) (areas s) (row s) (g .0) (g .1 .0) (g .1 .1 .0) (n .before .item-len .result) (n .key-counted .result)
-taken c = let n = c .before .before in record { found = found (n .before .before); long = long (n .before); counted = counted n; done = c .if3 .left }
+long : (c : tie.After-item-len) → let s = start (first (known c)) in c .item-len .result ≡ length (itemOf (s .args .kind) (row s))
+long c = let s = start (first (known c)) in c .item-len .ensures ∙ ap (λ (x : Row). length (itemOf (s .args .kind) x)) (passed s)
 
 -- ---- the needs
 returns : tie.Need-returns
@@ -96,8 +79,7 @@ returns c =
     let t = c .before in
     let s = t .before .before .before .before .before .before .before .before in
     let a = s .args in
-    laws.not-agreed (a .kind) Dictionary (a .c) (areas s) (row s) (sym (c .before .before .keys-disagree .ensures) ∙ c .before .if1 .taken)
-    (c .refused .ensures)
+    refused.not-agreed (a .kind) Dictionary (a .c) (areas s) (a .n) (row s) (sym (t .before .keys-disagree .ensures) ∙ t .if1 .taken) (c .refused .ensures)
 
 key-step-requires : tie.Need-key-step-requires
 key-step-requires c κs =
@@ -112,60 +94,32 @@ returns-2 c =
     let e = f .before .before .before .before .before in
     let s = start e in
     let a = s .args in
-    laws.field-wrong (a .kind) Dictionary (a .c) (areas s) (row s) (agrees e) (sym (c .before .enum-told .given .1) ∙ stepped f) (c .refused2 .ensures)
+    refused.field-wrong (a .kind) Dictionary (a .c) (areas s) (a .n) (row s) (agrees e) (sym (c .before .enum-told .given .1) ∙ stepped f) (c .refused2 .ensures)
 
 returns-3 : tie.Need-returns-3
 returns-3 c =
     let k = c .before .before .before in
     let s = start (first k) in
     let a = s .args in
-    laws.not-fit (a .kind) Dictionary (a .c) (areas s) (row s) (agrees (first k)) (step k)
+    refused.not-fit (a .kind) Dictionary (a .c) (areas s) (a .n) (row s) (agrees (first k)) (step k)
     (sym (c .before .before .row-fits .ensures ∙ ap (fits (a .kind)) (passed s)) ∙ not-true _ (c .before .if2 .taken)) (c .refused3 .ensures)
 
 item-len-requires : tie.Need-item-len-requires
 item-len-requires c κs = sym (c .before .row-fits .ensures) ∙ not-false _ (c .if2 .left)
 
-key-counted-requires : tie.Need-key-counted-requires
-key-counted-requires c κs =
-    let s = start (first (c .before .before .before)) in
-    let a = s .args in
-    let z = laws.count-asks (a .kind) Dictionary (a .c) (areas s) (row s) (found (c .before)) in
-    (z .0, z .1)
+key-found-requires : tie.Need-key-found-requires
+key-found-requires c κs =
+    let l = c .before .before .before .before .before .before in
+    let s = start (first (known l)) in
+    let small = laws.key-small (s .args .kind) Dictionary (s .args .c) (areas s) (row s) (found (l .before)) in
+    (ways.found-passed refl (passed s) (toZ-ofZ small) (found (l .before)), ways.long-passed (s .args .kind) (passed s) (long l))
 
 returns-4 : tie.Need-returns-4
 returns-4 c =
-    let n = c .before .before in
-    let s = at n in
+    let g = (let l = c .before .before .before .before .before in l .before .before .before .before .before .before) in
+    let s = start (first (known (g .before .before .before .before .before .before .before))) in
     let a = s .args in
-    laws.count-refused (a .kind) Dictionary (a .c) (areas s) (row s) (found (n .before .before)) (counted n) (c .if3 .taken)
-
-write-stored-requires : tie.Need-write-stored-requires
-write-stored-requires c κs =
-    let e = c .before .before .before .before in
-    let s = at (e .before .before) in
-    let a = s .args in
-    λ t. laws.stores-passed (a .kind) false (a .c .entries) (a .c .bytes) (passed s)
-    (laws.item-asks (a .kind) Dictionary (a .c) (areas s) (row s) (taken e) t (keys-stored (a .c)) keys-flagged)
-
-write-run-requires : tie.Need-write-run-requires
-write-run-requires c κs =
-    let w = c .before .before .before .before .before .before .before .before in
-    let e = w .before .before .before .before .before .before .before in
-    let s = at (e .before .before) in
-    let a = s .args in
-    laws.run-asks (a .kind) Dictionary (a .c) (areas s) (row s) (taken e) keys-coded (sym keys-keyed)
-
-returns-5 : tie.Need-returns-5
-returns-5 c =
-    let r = c .before .before .before in
-    let w = r .before .before .before .before .before .before .before .before in
-    let x = w .before .before .before in
-    let e = x .before .before .before .before .before in
-    let s = at (e .before .before) in
-    let a = s .args in
-    laws.row-done (a .kind) Dictionary (a .c) (areas s) (row s) (taken e) (keys-stored (a .c)) keys-flagged (sym keys-coded) (sym keys-keyed)
-    (laws.put-passed (a .kind) false (a .c .entries) (a .c .bytes) (passed s) (known (e .before .before) .before .found .given .0 .0) (areas s)
-    (x .write-stored .ensures)) (r .write-run .ensures .0) (r .write-run .ensures .1)
+    ways.times-passed (a .kind) refl (a .c) (areas s) (a .n) (passed s) (g .key-found .ensures)
 
 pub to-keys-spec : {M : Type 1} → statement M
 to-keys-spec =
@@ -191,18 +145,11 @@ to-keys-spec =
     (λ c. search needs)
     returns-3
     item-len-requires
-    key-counted-requires
-    (λ c. search needs)
-    (λ c. search needs)
-    (λ c. search needs)
-    (λ c. search needs)
-    returns-4
-    write-stored-requires
-    write-run-requires
+    key-found-requires
     (λ c. search needs)
     (λ c. search needs)
     (λ c. search needs)
     (λ c. search needs)
     (λ c. search needs)
     (λ c. search needs)
-    returns-5)
+    returns-4)

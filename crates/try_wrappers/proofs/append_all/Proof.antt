@@ -23,6 +23,9 @@ loop-holds c = search needs
 value-requires : tie.Need-value-requires Inv-loop μ-loop
 value-requires c κs = search needs
 
+times-requires : tie.Need-times-requires Inv-loop μ-loop
+times-requires c κs = search needs
+
 append-requires : tie.Need-append-requires Inv-loop μ-loop
 append-requires c κs = search needs
 
@@ -64,6 +67,7 @@ append-all-spec =
     μ-loop
     loop-holds
     value-requires
+    times-requires
     append-requires
     sub-left
     loop-less

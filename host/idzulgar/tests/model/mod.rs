@@ -6,6 +6,7 @@
 pub mod differences;
 pub mod held;
 pub mod loose;
+pub mod memory;
 pub mod reads;
 pub mod sheets;
 

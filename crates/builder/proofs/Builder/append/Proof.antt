@@ -1,4 +1,4 @@
--- `builder::Builder::append` meets its contract: that of the append over what is counted. Assumes nothing.
+-- `builder::Builder::append` meets its contract: an append of the row once. Assumes nothing.
 use borrow.Author.Needs.{needs}
 use Rattle.append.specs.Appending.{Lent, lent}
 use Rattle.builder.proofs.Answers as laws
@@ -8,40 +8,16 @@ use Rattle.builder.proofs.Builder.append.Tie as tie
 abbrev areas : tie.Start → Lent
 areas s = let a = s .args in lent (a .items .now) (a .ends .now) (a .flags .now) (a .counts .now) (a .keys .now) (a .lens .now)
 
-abbrev start : tie.After-column-of → tie.Start
-start c = c .before .before .before .before .before .before .before
+abbrev start : tie.After-append-times → tie.Start
+start c = let l = c .before .before .before .before .before .before .before in l .before .before .before .before .before .before
 
 returns : tie.Need-returns
 returns c =
-    let k = c .before .before in
-    let s = start k in
+    let l = c .before .before .before .before .before .before .before .before in
+    let d = l .before .before .before in
+    let s = start d in
     let a = s .args in
-    laws.append-unknown (a .self) (areas s) (a .present) (a .value) (a .item .now) (k .column-of .ensures) (c .enum-told .given .1)
-
-returns-2 : tie.Need-returns-2
-returns-2 c =
-    let t = c .before .before .before .before .before .before .before in
-    let w = t .before .before .before .before .before .before in
-    let b = w .before .before .before .before .before .before .before in
-    let m = b .before .before in
-    let k = m .before .before in
-    let s = start k in
-    let a = s .args in
-    laws.append-refused (a .self) (areas s) (a .present) (a .value) (a .item .now) (k .column-of .ensures) (m .column .given .1) (s .fits .value)
-    (w .to-block .ensures) (c .if1 .taken)
-
-returns-3 : tie.Need-returns-3
-returns-3 c =
-    let e = c .before .before in
-    let t = e .before .before .before .before .before .before .before in
-    let w = t .before .before .before .before .before .before in
-    let b = w .before .before .before .before .before .before .before in
-    let m = b .before .before in
-    let k = m .before .before in
-    let s = start k in
-    let a = s .args in
-    laws.append-done (a .self) (areas s) (a .present) (a .value) (a .item .now) (k .column-of .ensures) (m .column .given .1) (s .fits .value)
-    (w .to-block .ensures) (e .if1 .left) (c .counting .ensures)
+    laws.said-once (a .self) (areas s) (a .present) (a .value) (a .item .now) (s .fits .value) (d .append-times .ensures)
 
 pub append-spec : {M : Type 1} → statement M
 append-spec =
@@ -50,20 +26,8 @@ append-spec =
     (λ c κs. search needs)
     (λ c. search needs)
     (λ c. search needs)
-    returns
-    (λ c κs. search needs)
     (λ c. search needs)
     (λ c. search needs)
     (λ c. search needs)
     (λ c. search needs)
-    (λ c. search needs)
-    (λ c. search needs)
-    returns-2
-    (λ c κs. search needs)
-    (λ c. search needs)
-    (λ c. search needs)
-    (λ c. search needs)
-    (λ c. search needs)
-    (λ c. search needs)
-    (λ c. search needs)
-    returns-3)
+    returns)

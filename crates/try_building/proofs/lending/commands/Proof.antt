@@ -6,7 +6,7 @@ use Rattle.try_building.proofs.lending.commands.Statement.{statement}
 use Rattle.try_building.proofs.lending.commands.Tie as tie
 
 returns : tie.Need-returns
-returns c = sym (length-replicate {0} {A = ℕ} 300000 0)
+returns c = sym (length-replicate {0} {A = ℕ} 500000 0)
 
 pub commands-spec : {M : Type 1} → statement M
 commands-spec = tie.close (tie.spec returns)

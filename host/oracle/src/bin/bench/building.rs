@@ -18,7 +18,7 @@ const PORT: Append = calls::append;
 const BY_HAND: Append = by_hand::append;
 
 /// A row as the calls take it.
-fn parts(row: &Value) -> (bool, i64, &[u8]) {
+pub fn parts(row: &Value) -> (bool, i64, &[u8]) {
     match row {
         Value::Null => (false, 0, &[]),
         Value::Int(value) => (true, *value, &[]),
@@ -29,18 +29,18 @@ fn parts(row: &Value) -> (bool, i64, &[u8]) {
 
 /// The six areas.
 #[derive(Clone, PartialEq, Debug)]
-struct Memory {
-    items: Vec<u8>,
-    ends: Vec<u32>,
-    flags: Vec<u8>,
-    counts: Vec<u32>,
-    keys: Vec<i32>,
-    lens: Vec<u8>,
+pub struct Memory {
+    pub items: Vec<u8>,
+    pub ends: Vec<u32>,
+    pub flags: Vec<u8>,
+    pub counts: Vec<u32>,
+    pub keys: Vec<i32>,
+    pub lens: Vec<u8>,
 }
 
 impl Memory {
     /// Room for some rows of a column, with items of a length in all.
-    fn new(column: Column, rows: usize, len: usize) -> Memory {
+    pub fn new(column: Column, rows: usize, len: usize) -> Memory {
         let when = |used: bool, len: usize| if used { len } else { 0 };
         let coded = !matches!(column.encoding, Encoding::Plain | Encoding::Nullable);
         let flagged = matches!(column.encoding, Encoding::Nullable | Encoding::RunLengthNullable);
@@ -55,7 +55,7 @@ impl Memory {
     }
 
     #[inline]
-    fn areas(&mut self) -> Areas<'_> {
+    pub fn areas(&mut self) -> Areas<'_> {
         Areas {
             items: &mut self.items,
             ends: &mut self.ends,
@@ -221,12 +221,13 @@ pub fn append_times(name: &str) -> (f64, f64) {
     (port, hand)
 }
 
-/// Instructions of an append, by the port and by hand. The port appends all rows three times in that run, the call by hand twice.
+/// Instructions of an append, by the port and by hand. The port appends all rows three times in that run, the call by hand twice. A single
+/// append of the port is its call for equal rows, with 1.
 pub fn append_counts(name: &str) -> (f64, f64) {
     let rows = COUNT_ROWS.to_string();
     let each =
         |function, side, times| counted_in(function, "building", &["append", name, side, &rows]) / (times * COUNT_ROWS) as f64;
-    (each("idz_append", "port", 3), each("hand_append", "by hand", 2))
+    (each("idz_append_times", "port", 3), each("hand_append", "by hand", 2))
 }
 
 /// The kinds whose lookup is measured.

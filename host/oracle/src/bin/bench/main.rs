@@ -3,7 +3,7 @@
 //!     bench [PART]                  times: nanoseconds a row, best of several rounds, and ratios
 //!     bench instructions [PART]     instructions a row by the script `count`, whatever else the machine does
 //!
-//! A part is reading, building, runs, texts, sheets or compare; without one, all are run.
+//! A part is reading, building, copies, runs, texts, sheets or compare; without one, all are run.
 use std::hint::black_box;
 use std::process::Command;
 use std::time::Instant;
@@ -13,6 +13,7 @@ use idzulgar::Value;
 mod building;
 mod by_hand;
 mod compare;
+mod copies;
 mod reading;
 mod runs;
 mod sheets;
@@ -80,6 +81,7 @@ fn main() {
         [] => {
             reading::times();
             building::times();
+            copies::times();
             runs::times();
             texts::times();
             sheets::times();
@@ -87,6 +89,7 @@ fn main() {
         }
         ["reading"] => reading::times(),
         ["building"] => building::times(),
+        ["copies"] => copies::times(),
         ["runs"] => runs::times(),
         ["texts"] => texts::times(),
         ["sheets"] => sheets::times(),
@@ -94,6 +97,7 @@ fn main() {
         ["instructions"] => {
             reading::instructions();
             building::instructions();
+            copies::instructions();
             runs::instructions();
             texts::instructions();
             sheets::instructions();
@@ -101,16 +105,18 @@ fn main() {
         }
         ["instructions", "reading"] => reading::instructions(),
         ["instructions", "building"] => building::instructions(),
+        ["instructions", "copies"] => copies::instructions(),
         ["instructions", "runs"] => runs::instructions(),
         ["instructions", "texts"] => texts::instructions(),
         ["instructions", "sheets"] => sheets::instructions(),
         ["instructions", "compare"] => compare::instructions(),
         ["count", "reading", ref words @ ..] => reading::count(words),
         ["count", "building", ref words @ ..] => building::count(words),
+        ["count", "copies", ref words @ ..] => copies::count(words),
         ["count", "runs", ref words @ ..] => runs::count(words),
         ["count", "texts", ref words @ ..] => texts::count(words),
         ["count", "sheets", ref words @ ..] => sheets::count(words),
         ["count", "compare", ref words @ ..] => compare::count(words),
-        _ => panic!("bench [instructions] [reading|building|runs|texts|sheets|compare]"),
+        _ => panic!("bench [instructions] [reading|building|copies|runs|texts|sheets|compare]"),
     }
 }

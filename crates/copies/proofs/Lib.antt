@@ -1,0 +1,4 @@
+pub mod Growing
+pub mod Stretches
+pub mod Numbers
+pub mod Refused

@@ -1,0 +1,9 @@
+pub mod Answers
+pub mod ReadBack
+pub mod RunsAgain
+pub mod KeysAgain
+pub mod AgreeAgain
+pub mod FoundAgain
+pub mod Repeating
+pub mod AddingUp
+pub mod OneByOne
