@@ -240,7 +240,9 @@ idz_finished idz_finish(idz_builder builder, const uint8_t *items, size_t items_
                         const uint8_t *flags, size_t flags_len, const uint32_t *counts, size_t counts_len, const int32_t *keys,
                         size_t keys_len, const uint8_t *lens, size_t lens_len, uint8_t *out, size_t out_len);
 
-/* The estimated size of the block, from the record alone. Refuses 9. */
+/* The estimated size of the block, from the record alone. Refuses 9. In encoding 0 the block has just so many bytes, in 1 four more. In 2 to
+ * 4, with a row at least, it has at most size + beyond + 3 * builder.runs, and at least size + beyond - builder.runs, where beyond is 4 in
+ * encoding 2 and 8 in 3 and 4 (docs/FORMAT.md, 30). */
 idz_estimated idz_estimate(idz_builder builder);
 
 /* Whether to finish before a next row, from the record alone: whether that row is present, and the length of its bytes. A dictionary is to be

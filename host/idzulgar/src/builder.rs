@@ -278,10 +278,29 @@ impl Builder {
         Ok(answer.len)
     }
 
+    /// Room that is enough for [`finish_into`](Builder::finish_into): the estimate, 4 bytes for each length that it leaves out, and 3 more
+    /// of each run's count. The theorem `room-is-enough` (crates/estimate_laws) says so of every builder that calls alone have made; where each
+    /// count takes five bytes the block has just so many.
+    ///
+    /// ```
+    /// # use idzulgar::{Builder, Column, Encoding, Kind, Row};
+    /// let mut builder = Builder::new(Column::new(Kind::Bool, Encoding::RunLength), 1 << 14)?;
+    /// builder.append_times(Row::Int(1), 1 << 28)?;
+    /// assert_eq!((builder.estimate()?, builder.finish_room()?, builder.finish()?.len()), (7, 14, 14));
+    /// # Ok::<(), idzulgar::Refusal>(())
+    /// ```
+    pub fn finish_room(&self) -> Result<usize, Refusal> {
+        let beyond = match self.column.encoding {
+            Encoding::Plain => 0,
+            Encoding::Nullable | Encoding::RunLength => 4,
+            Encoding::RunLengthNullable | Encoding::Dictionary => 8,
+        };
+        Ok((self.estimate()? as usize).saturating_add(beyond + 3 * self.record.runs))
+    }
+
     /// The block of the rows appended so far.
     pub fn finish(&self) -> Result<Vec<u8>, Refusal> {
-        // the estimate leaves out at most 16 bytes of lengths and 3 of each run's count
-        let most = (self.estimate()? as usize).saturating_add(16 + 3 * self.record.runs);
+        let most = self.finish_room()?;
         let mut block = Vec::new();
         block.try_reserve_exact(most).map_err(|_| Refusal::Room)?;
         block.resize(most, 0);
