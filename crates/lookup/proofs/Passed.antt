@@ -73,22 +73,34 @@ first-none test n (suc m) i h =
     first-none test n m (suc i) (λ k a b. h k (omega arith) (omega arith))
     ∙ ap (λ (t : Bool). cond t i (firstAt test n (places m (suc i)))) (sym (h i (omega arith) (omega arith)))
 
--- ---- the lookup
-module _ (k : Kind) (n len : ℕ) (h : Held) (row : Row) (i : ℕ) where
-  pub look-wrong : fieldWrong k n len h i ≡ true → (is : List ℕ) → Bad ≡ lookFrom k n len h row (i ∷ is)
-  unfolding lookFrom
-  look-wrong w is = ap (λ (t : Bool). cond t Bad (cond (same row (heldRow k h i)) (Entry i) (lookFrom k n len h row is))) (sym w)
+-- ---- the lookup: the items passed have good fields and are not the row
+pub record Looking (k : Kind) (n len : ℕ) (h : Held) (row : Row) (i : ℕ) : Type 0 where
+  pub passed : Passed (lookFrom k n len h row) n i
 
-  module _ (w : fieldWrong k n len h i ≡ false) where
-    good : (is : List ℕ) → lookFrom k n len h row (i ∷ is) ≡ cond (same row (heldRow k h i)) (Entry i) (lookFrom k n len h row is)
-    unfolding lookFrom
-    good is = ap (λ (t : Bool). cond t Bad (cond (same row (heldRow k h i)) (Entry i) (lookFrom k n len h row is))) w
+pub looking-start : (k : Kind) (n len : ℕ) (h : Held) (row : Row) → Looking k n len h row 0
+looking-start k n len h row = record { passed = passed-start (lookFrom k n len h row) n }
 
-    pub look-here : same row (heldRow k h i) ≡ true → (is : List ℕ) → Entry i ≡ lookFrom k n len h row (i ∷ is)
-    look-here s is = sym (good is ∙ ap (λ (t : Bool). cond t (Entry i) (lookFrom k n len h row is)) s)
+module _ {k : Kind} {n len : ℕ} {h : Held} {row : Row} {i : ℕ} (g : Looking k n len h row i) where
+  module _ (l : i < n) where
+    pub looking-wrong : fieldWrong k n len h i ≡ true → Bad ≡ lookUp k n len h row
+    unfolding lookUp lookFrom
+    looking-wrong w = passed-stop (g .passed) l (λ is. ap (λ (t : Bool). cond t Bad (cond (same row (heldRow k h i)) (Entry i) (lookFrom k n len h row is))) (sym w))
 
-    pub look-later : same row (heldRow k h i) ≡ false → (is : List ℕ) → lookFrom k n len h row (i ∷ is) ≡ lookFrom k n len h row is
-    look-later s is = good is ∙ ap (λ (t : Bool). cond t (Entry i) (lookFrom k n len h row is)) s
+    module _ (w : fieldWrong k n len h i ≡ false) where
+      good : (is : List ℕ) → lookFrom k n len h row (i ∷ is) ≡ cond (same row (heldRow k h i)) (Entry i) (lookFrom k n len h row is)
+      unfolding lookFrom
+      good is = ap (λ (t : Bool). cond t Bad (cond (same row (heldRow k h i)) (Entry i) (lookFrom k n len h row is))) w
+
+      pub looking-here : same row (heldRow k h i) ≡ true → Entry i ≡ lookUp k n len h row
+      unfolding lookUp
+      looking-here s = passed-stop (g .passed) l (λ is. sym (good is ∙ ap (λ (t : Bool). cond t (Entry i) (lookFrom k n len h row is)) s))
+
+      pub looking-step : same row (heldRow k h i) ≡ false → Looking k n len h row (i + 1)
+      looking-step s = record { passed = passed-step (g .passed) l (λ is. good is ∙ ap (λ (t : Bool). cond t (Entry i) (lookFrom k n len h row is)) s) }
+
+  pub looking-end : n ≤ i → Entry n ≡ lookUp k n len h row
+  unfolding lookUp lookFrom
+  looking-end e = passed-end (g .passed) e
 
 -- two that hold the same items with the same fields
 look-alike :

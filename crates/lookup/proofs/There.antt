@@ -1,11 +1,11 @@
--- What the code asks of the lent areas and what it answers, for each kind that a match found; and that an item whose fields are good is there.
--- Assumes nothing.
+-- What the code asks of the lent areas and what it answers, for each kind that a match found; that an item whose fields are good is there; and
+-- what a char item's length says of it. Assumes nothing.
 use Prim.Native.Nat.{ℕ, suc, _+_, _-_, _*_, _≤_, _<_}
 use native.Mathlib.Omega.{arith}
 use mathlib.Core.Path.{_≡_, refl, sym, ap, subst, _∙_}
-use mathlib.Core.Bool.{Bool, false, not, _&&_, _||_}
+use mathlib.Core.Bool.{Bool, true, false, cond, not, _&&_, _||_}
 use mathlib.Core.List.{List, []}
-use borrow.Author.Tests.{ltb-false}
+use borrow.Author.Tests.{ltb-true, ltb-false, le-ltb}
 use lib.Dec.{ltb, eqb}
 use lib.IntN.{ℤ}
 use lib.ListN.{length, take, drop, getD}
@@ -23,6 +23,7 @@ use Rattle.lookup.specs.Held.{Held, held, itemEnd, itemStart, heldRow, f
 use Rattle.lookup.specs.Asking.{FieldsThere, BytesThere, ItemThere}
 use Rattle.lookup.specs.First.{firstValue}
 use Rattle.encode.proofs.Bools.{neither}
+use Rattle.lookup.proofs.Alike.{length-other}
 use Rattle.lookup.proofs.Passed.{up-alike, up-first}
 
 -- ---- an item whose fields are good is there
@@ -111,6 +112,44 @@ module _ {k : Kind} (w : ℕ) (e : k ≡ Char w) where
     char-up n len {x} q =
         subst (λ (j : Kind). x ≡ lookUp j n len (held is es ls) (valueOf j v bs)) (sym e)
         (q ∙ up-alike (Char w) (Char w) n 0 len (held is [] ls) (held is es ls) (bytes bs) (λ i. refl) (λ i. refl))
+
+-- where the code asks for an item's length first: r is the length of the bytes that are sought, or no item's if they are longer than the width
+pub record ByLength (w : ℕ) (is ls : List ℕ) (n i : ℕ) (bs : List ℕ) (r : ℕ) : Type 0 where
+  pub inside : i < n
+  pub room : n * w ≤ length is
+  pub byte : getD ls i 0 < 256
+  pub asked : r ≡ cond (ltb w (length bs)) 256 (length bs)
+
+module _ {w : ℕ} {is ls : List ℕ} {n i : ℕ} {bs : List ℕ} {r : ℕ} (g : ByLength w is ls n i bs r) where
+  module _ (q : getD ls i 0 ≡ r) where
+    as-long : (length bs ≡ getD ls i 0) × (length bs ≤ w)
+    as-long = by (ltb w (length bs)) refl (g .asked)
+      where
+        by : (t : Bool) → ltb w (length bs) ≡ t → r ≡ cond t 256 (length bs) → (length bs ≡ getD ls i 0) × (length bs ≤ w)
+        by true e p = absurd (omega (arith, g .byte, q, p))
+        by false e p = (sym (q ∙ p), ltb-false w (length bs) e)
+
+    pub alike-room : i * w + length bs ≤ length is
+    alike-room = let l = item-room i n w (length is) (g .inside) (g .room) in omega (arith, as-long .1)
+
+    pub alike-good : (len : ℕ) → fieldWrong (Char w) n len (held is [] ls) i ≡ false
+    unfolding fieldWrong
+    alike-good len = le-ltb w (getD ls i 0) (omega (arith, as-long .0, as-long .1))
+
+    pub alike-same : {x : Bool} → x ≡ sameBytes bs (take (length bs) (drop (i * w) is)) → x ≡ same (bytes bs) (heldRow (Char w) (held is [] ls) i)
+    unfolding same heldRow
+    alike-same e = e ∙ ap (λ (m : ℕ). sameBytes bs (take m (drop (i * w) is))) (as-long .0)
+
+  module _ (d : getD ls i 0 ≡ r → ⊥) (h : getD ls i 0 ≤ w) where
+    unlike : (t : Bool) → ltb w (length bs) ≡ t → r ≡ cond t 256 (length bs) → length bs ≡ getD ls i 0 → ⊥
+    unlike true e p q = let l = ltb-true w (length bs) e in omega (arith, q)
+    unlike false e p q = d (sym (p ∙ q))
+
+    pub unlike-same : same (bytes bs) (heldRow (Char w) (held is [] ls) i) ≡ false
+    unfolding same heldRow
+    unlike-same =
+        let l = item-room i n w (length is) (g .inside) (g .room) in
+        sym (length-other is (i * w) (getD ls i 0) bs (omega arith) (unlike (ltb w (length bs)) refl (g .asked)))
 
 -- ---- blob, which has no lengths
 -- from the start and the end that the code reads

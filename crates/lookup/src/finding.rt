@@ -5,8 +5,10 @@ use encode::Kind;
 use encode::Primitive;
 use encode::Shape;
 ghost use mathlib.Core.Path.{_≡_};
+ghost use mathlib.Core.Bool.{cond};
 ghost use mathlib.Core.List.{[]};
 ghost use Prim.Native.Nat.{_+_, _*_, _≤_};
+ghost use lib.Dec.{ltb};
 ghost use lib.ListN.{length, take, drop};
 ghost use Rattle.encode.specs.Kinds.{blob};
 ghost use Rattle.encode.specs.declared.Kind.the-variants.{Char};
@@ -19,6 +21,21 @@ ghost use Rattle.lookup.specs.Asking.{FieldsThere, BytesThere, ItemThere
 
 // ---- equal as given
 
+// Whether the bytes of `s` from `from` on are those of `t`, as many as `t` has.
+fn same_as(s: &[u8], from: usize, t: &[u8]) -> bool
+    requires { ⌜ from + length (now t) ≤ length (now s) ⌝ }
+    ensures { λ r. ⌜ r ≡ sameBytes (now (t .entry)) (take (length (now (t .entry))) (drop from (now (s .entry)))) ⌝ }
+{
+    let mut i = 0;
+    while i < t.len() {
+        if s[from + i] != t[i] {
+            return false;
+        }
+        i += 1;
+    }
+    true
+}
+
 // Whether the `n` bytes of `s` from `from` on are those of `t`: by length first.
 fn same_bytes(s: &[u8], from: usize, n: usize, t: &[u8]) -> bool
     requires { ⌜ from + n ≤ length (now s) ⌝ }
@@ -27,14 +44,7 @@ fn same_bytes(s: &[u8], from: usize, n: usize, t: &[u8]) -> bool
     if t.len() != n {
         return false;
     }
-    let mut i = 0;
-    while i < n {
-        if s[from + i] != t[i] {
-            return false;
-        }
-        i += 1;
-    }
-    true
+    same_as(s, from, t)
 }
 
 // Whether char item `i` is `item`; whether blob item `i`, which starts at `from`, is.
@@ -146,14 +156,26 @@ fn find_fixed(p: Primitive, items: &[u8], n: usize, value: i64) -> usize
     if !p.takes(value) {
         return n;
     }
-    let item = p.encode(value);
     let shape = p.shape();
     match shape {
-        Shape::Bool => find_bool(items, n, item[0] != 0),
-        Shape::Low2 => find_two(items, n, encode::low2(item)),
-        Shape::Low4 | Shape::High4 => find_four(items, n, encode::low4(item)),
-        Shape::Low8 | Shape::High8 => find_eight(items, n, encode::low8(item)),
+        Shape::Bool => {
+            let item = p.encode(value);
+            find_bool(items, n, item[0] != 0)
+        }
+        Shape::Low2 => find_two(items, n, encode::low2(p.encode(value))),
+        Shape::Low4 | Shape::High4 => find_four(items, n, encode::low4(p.encode(value))),
+        Shape::Low8 | Shape::High8 => find_eight(items, n, encode::low8(p.encode(value))),
     }
+}
+
+// The length that a char item of the bytes has: no entry's where they are longer than the width, as no good one is.
+fn held_len(w: u8, len: usize) -> usize
+    ensures { λ r. ⌜ r ≡ cond (ltb w len) 256 len ⌝ }
+{
+    if (w as usize) < len {
+        return 256;
+    }
+    len
 }
 
 // The first of `n` char items that is `item`, which becomes the next if it is new; or a length above the width up to there.
@@ -161,13 +183,16 @@ fn find_char(w: u8, items: &[u8], lens: &[u8], n: usize, item: &[u8]) -> Looked
     requires { ⌜ (n ≤ MOST_ITEMS) × (n ≤ length (now lens)) × (n * w ≤ length (now items)) ⌝ }
     ensures { λ r. ⌜ r ≡ lookUp (Char w) n 0 (held (now (items .entry)) [] (now (lens .entry))) (bytes (now (item .entry))) ⌝ }
 {
+    let len = held_len(w, item.len());
     let mut i = 0;
     while i < n {
-        if w < lens[i] {
+        let l = lens[i];
+        if l as usize == len {
+            if same_as(items, i * (w as usize), item) {
+                return Looked::Entry(i);
+            }
+        } else if w < l {
             return Looked::Bad;
-        }
-        if same_char(w, items, lens, i, item) {
-            return Looked::Entry(i);
         }
         i += 1;
     }
@@ -179,17 +204,31 @@ fn find_blob(items: &[u8], len: usize, ends: &[u32], n: usize, item: &[u8]) -> L
     requires { ⌜ (n ≤ length (now ends)) × (len ≤ length (now items)) ⌝ }
     ensures { λ r. ⌜ r ≡ lookUp blob n len (held (now (items .entry)) (now (ends .entry)) []) (bytes (now (item .entry))) ⌝ }
 {
+    if n == 0 {
+        return Looked::Entry(n);
+    }
+    let last = n - 1;
     let mut i = 0;
     let mut from = 0;
-    while i < n {
-        if fields::blob_wrong(n, len, ends, i, from) {
+    while i < last {
+        let end = fields::end_in(ends, i);
+        if end < from {
             return Looked::Bad;
         }
-        if same_blob(items, ends, i, from, item) {
+        if len < end {
+            return Looked::Bad;
+        }
+        if same_bytes(items, from, end - from, item) {
             return Looked::Entry(i);
         }
-        from = fields::end_in(ends, i);
+        from = end;
         i += 1;
+    }
+    if fields::blob_wrong(n, len, ends, i, from) {
+        return Looked::Bad;
+    }
+    if same_blob(items, ends, i, from, item) {
+        return Looked::Entry(i);
     }
     Looked::Entry(n)
 }

@@ -105,21 +105,6 @@ fn entry_key(i: usize) -> i32
     -2147483647 + (i as i32)
 }
 
-fn entry_step(c: Counted, keys: &[i32], looked: Looked) -> Step
-    requires { ⌜ (c .runs ≤ length (now keys)) × ((i : ℕ) → looked ≡ Entry i → i ≤ MOST_ENTRIES) ⌝ }
-    ensures { λ r. ⌜ r ≡ entryStep c (now (keys .entry)) looked ⌝ }
-{
-    let Looked::Entry(i) = looked else {
-        return Step::Wrong;
-    };
-    let key = entry_key(i);
-    Step::Row {
-        stored: i == c.entries,
-        joins: joins_key(c, keys, key),
-        key,
-    }
-}
-
 pub fn key_step(
     c: Counted,
     kind: Kind,
@@ -144,5 +129,13 @@ pub fn key_step(
         };
     }
     let looked = lookup::look_up(kind, c.entries, c.bytes, items, ends, lens, value, item);
-    entry_step(c, keys, looked)
+    let Looked::Entry(i) = looked else {
+        return Step::Wrong;
+    };
+    let key = entry_key(i);
+    Step::Row {
+        stored: i == c.entries,
+        joins: joins_key(c, keys, key),
+        key,
+    }
 }

@@ -2,7 +2,7 @@
 use borrow.Author.Needs.{needs}
 use Rattle.needs.proofs.Encodings.{rows-told, runs-told}
 use Rattle.append.specs.Appending.{Lent, lent}
-use Rattle.append_runs.proofs.Ways.{arm}
+use Rattle.append_times.proofs.Ways.{arm}
 use Rattle.append_block.proofs.to_block.Statement.{statement}
 use Rattle.append_block.proofs.to_block.Tie as tie
 

@@ -9,7 +9,7 @@ use Rattle.plain.specs.Rows.{Row, rowOf}
 use Rattle.needs.specs.Tests.{runsBy}
 use Rattle.append.specs.Appending.{Lent, lent}
 use Rattle.copies_laws.proofs.Answers.{single}
-use Rattle.append_runs.proofs.Ways as ways
+use Rattle.append_times.proofs.Ways as ways
 use Rattle.append_runs.proofs.run_found.Statement.{statement}
 use Rattle.append_runs.proofs.run_found.Tie as tie
 

@@ -20,7 +20,7 @@ use Rattle.append.specs.Asking.{Found}
 use Rattle.append.proofs.Passed as laws
 use Rattle.copies.proofs.Refused as refused
 use Rattle.copies_laws.proofs.RunsAgain.{run-found}
-use Rattle.append_runs.proofs.Ways as ways
+use Rattle.append_times.proofs.Ways as ways
 use Rattle.append_runs.proofs.to_runs.Statement.{statement}
 use Rattle.append_runs.proofs.to_runs.Tie as tie
 

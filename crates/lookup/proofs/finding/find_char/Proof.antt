@@ -1,7 +1,7 @@
 -- `lookup::finding::find_char` meets its contract: the items that the loop has passed have good lengths and are not the row. Assumes nothing.
-use Prim.Native.Nat.{_-_}
-use mathlib.Core.Path.{_≡_, sym, _∙_}
-use mathlib.Core.Bool.{false}
+use Prim.Native.Nat.{_-_, _<_}
+use mathlib.Core.Path.{sym, _∙_}
+use mathlib.Core.Logic.{⊎-elim}
 use mathlib.Core.List.{[]}
 use native.Mathlib.Omega.{arith}
 use borrow.Author.Needs.{needs}
@@ -9,87 +9,93 @@ use borrow.Author.Tests.{lt-ltb, le-ltb}
 use lib.ListN.{getD}
 use Rattle.encode.specs.declared.Kind.the-variants.{Char}
 use Rattle.plain.specs.Rows.{bytes}
-use Rattle.lookup.specs.Held.{Held, held, fieldWrong, lookFrom, lookUp}
-use Rattle.lookup.specs.Asking.{FieldsThere, BytesThere}
-use Rattle.lookup.proofs.There.{item-there}
-use Rattle.lookup.proofs.Passed.{Passed, passed-start, passed-stop, passed-step, passed-end, look-wrong, look-here, look-later}
+use Rattle.plain.proofs.Numbers.{product-small}
+use Rattle.lookup.specs.Held.{held, fieldWrong}
+use Rattle.lookup.proofs.There.{ByLength, alike-room, alike-good, alike-same, unlike-same}
+use Rattle.lookup.proofs.Passed.{Looking, looking-start, looking-wrong, looking-here, looking-step, looking-end}
 use Rattle.lookup.proofs.finding.find_char.Statement.{statement}
 use Rattle.lookup.proofs.finding.find_char.Tie as tie
 
 abbrev Inv-loop : tie.InvT-loop
-Inv-loop w items lens n item i₀ i = Passed (lookFrom (Char w) n 0 (held items [] lens) (bytes item)) n i
+Inv-loop w items lens n item len i₀ i = Looking (Char w) n 0 (held items [] lens) (bytes item) i
 
 abbrev μ-loop : tie.MeasureT-loop
-μ-loop w items lens n item i₀ i = n - i
+μ-loop w items lens n item len i₀ i = n - i
 
 loop-holds : tie.Need-loop-holds Inv-loop μ-loop
-loop-holds c = passed-start _ _
+loop-holds c = looking-start _ _ _ _ _
 
--- the start, from the loop, and what is held there
+-- the start, from the loop
 abbrev start : tie.At-loop Inv-loop μ-loop → tie.Start Inv-loop μ-loop
-start l = l .before .before .before .before
+start l = l .before .before .before .before .before
 
-abbrev areas : tie.Start Inv-loop μ-loop → Held
-areas s = held (s .args .items .now) [] (s .args .lens .now)
+shared-slice-read-l : tie.Need-shared-slice-read-l Inv-loop μ-loop
+shared-slice-read-l c = omega (arith, start (c .before .before) .pre .1)
 
-shared-slice-read-if1 : tie.Need-shared-slice-read-if1 Inv-loop μ-loop
-shared-slice-read-if1 c = omega (arith, start (c .before .before) .pre .1)
+-- what is known of the item that the loop is at
+known : (c : tie.After-shared-slice-known4 Inv-loop μ-loop) → let l = c .before .before in let a = start l .args in
+    ByLength (a .w) (a .items .now) (a .lens .now) (a .n) (l .loop .i) (a .item .now) (l .before .held-len .result)
+known c =
+    let l = c .before .before in
+    record {
+      inside = omega arith;
+      room = start l .pre .2;
+      byte = omega (arith, c .shared-slice-known4 .given (l .loop .i));
+      asked = l .before .held-len .ensures;
+    }
+
+cast-if1 : tie.Need-cast-if1 Inv-loop μ-loop
+cast-if1 c = omega (arith, known c .byte)
+
+mul-same-as : tie.Need-mul-same-as Inv-loop μ-loop
+mul-same-as c =
+    let l = c .before .before .before in
+    let s = start l in
+    let b : s .args .w < 256 = search needs in
+    let h = product-small (l .loop .i) (s .args .w) (omega (arith, s .pre .0)) b in
+    omega arith
+
+same-as-requires : tie.Need-same-as-requires Inv-loop μ-loop
+same-as-requires c κs = alike-room (known (c .before)) (c .if1 .taken)
 
 returns : tie.Need-returns Inv-loop μ-loop
-unfolding lookUp fieldWrong
 returns c =
-    let l = c .before .before .before in
-    let s = start l in
-    passed-stop (l .loop .inv) (omega arith)
-    (look-wrong (Char (s .args .w)) (s .args .n) 0 (areas s) (bytes (s .args .item .now)) (l .loop .i)
-    (lt-ltb (s .args .w) (getD (s .args .lens .now) (l .loop .i) 0) (c .if1 .taken)))
-
-good : (c : tie.Else1 Inv-loop μ-loop) → let l = c .before .before .before in let s = start l in
-    fieldWrong (Char (s .args .w)) (s .args .n) 0 (areas s) (l .loop .i) ≡ false
-unfolding fieldWrong
-good c =
-    let l = c .before .before .before in
-    let s = start l in
-    le-ltb (s .args .w) (getD (s .args .lens .now) (l .loop .i) 0) (c .if1 .left)
-
-same-char-requires : tie.Need-same-char-requires Inv-loop μ-loop
-unfolding FieldsThere BytesThere
-same-char-requires c κs =
-    let l = c .before .before .before in
-    let s = start l in
-    item-there (Char (s .args .w)) (s .args .n) 0 (areas s) (l .loop .i) (omega arith) (s .pre .0) (s .pre .1) (s .pre .2) (good c)
+    let t = c .before .before in
+    let g = known (t .before) in
+    let q = t .if1 .taken in
+    looking-here (t .before .before .before .loop .inv) (g .inside) (alike-good g q 0) (sym (alike-same g q (c .before .same-as .ensures)) ∙ c .if2 .taken)
 
 returns-2 : tie.Need-returns-2 Inv-loop μ-loop
-unfolding lookUp
+unfolding fieldWrong
 returns-2 c =
-    let e = c .before .before in
-    let l = e .before .before .before in
-    let s = start l in
-    passed-stop (l .loop .inv) (omega arith)
-    (look-here (Char (s .args .w)) (s .args .n) 0 (areas s) (bytes (s .args .item .now)) (l .loop .i) (good e)
-    (sym (c .before .same-char .ensures) ∙ c .if2 .taken))
+    let l = c .before .before .before .before in
+    let a = start l .args in
+    looking-wrong (l .loop .inv) (omega arith) (lt-ltb (a .w) (getD (a .lens .now) (l .loop .i) 0) (c .if3 .taken))
 
 loop-again : tie.Need-loop-again Inv-loop μ-loop
+unfolding fieldWrong
 loop-again c =
-    let e = c .before .before in
-    let l = e .before .before .before in
-    let s = start l in
-    passed-step (l .loop .inv) (omega arith)
-    (look-later (Char (s .args .w)) (s .args .n) 0 (areas s) (bytes (s .args .item .now)) (l .loop .i) (good e)
-    (sym (c .before .same-char .ensures) ∙ c .if2 .left))
+    let l = c .before .before .before in
+    let a = start l .args in
+    let g = known (c .before) in
+    ⊎-elim (λ t. looking-step (l .loop .inv) (g .inside) (alike-good g (t .0 .taken) 0) (sym (alike-same g (t .0 .taken) (t .1 .ensures)) ∙ t .2 .left))
+    (λ e. looking-step (l .loop .inv) (g .inside) (le-ltb (a .w) (getD (a .lens .now) (l .loop .i) 0) (e .1 .left)) (unlike-same g (e .0 .left) (e .1 .left)))
+    (c .if1 .came)
 
 returns-3 : tie.Need-returns-3 Inv-loop μ-loop
-unfolding lookUp lookFrom
-returns-3 c = passed-end (c .before .loop .inv) (omega arith)
+returns-3 c = looking-end (c .before .loop .inv) (omega arith)
 
 pub find-char-spec : {M : Type 1} → statement M
 find-char-spec =
     tie.close
     (tie.spec Inv-loop μ-loop
+    (λ c κs. search needs)
     loop-holds
-    shared-slice-read-if1
+    shared-slice-read-l
+    cast-if1
+    mul-same-as
+    same-as-requires
     returns
-    same-char-requires
     returns-2
     (λ c. search needs) (λ c. search needs)
     loop-again

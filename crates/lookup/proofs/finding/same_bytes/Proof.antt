@@ -1,44 +1,26 @@
--- `lookup::finding::same_bytes` meets its contract. The loop's invariant is `Matching`, its measure the bytes that are left. Assumes nothing.
-use Prim.Native.Nat.{_-_}
+-- `lookup::finding::same_bytes` meets its contract: bytes of another length are others. Assumes nothing.
+use Prim.Native.Nat.{ℕ}
 use native.Mathlib.Omega.{arith}
-use borrow.Author.Needs.{needs}
-use Rattle.lookup.proofs.Alike.{Matching, matching-start, matching-step, matching-other, matching-all, length-other}
+use mathlib.Core.Path.{ap, _∙_}
+use lib.ListN.{take, drop}
+use Rattle.plain.specs.Rows.{sameBytes}
+use Rattle.lookup.proofs.Alike.{length-other}
 use Rattle.lookup.proofs.finding.same_bytes.Statement.{statement}
 use Rattle.lookup.proofs.finding.same_bytes.Tie as tie
 
-abbrev Inv-loop : tie.InvT-loop
-Inv-loop s from n t i₀ i = Matching s from n t i
+returns : tie.Need-returns
+returns c =
+    let s = c .before .before .before in
+    let a = s .args in
+    length-other (a .s .now) (a .from) (a .n) (a .t .now) (s .pre) (c .if1 .taken)
 
-abbrev μ-loop : tie.MeasureT-loop
-μ-loop s from n t i₀ i = n - i
+same-as-requires : tie.Need-same-as-requires
+same-as-requires c κs = omega (arith, c .before .before .before .pre, c .if1 .left)
 
-returns : tie.Need-returns Inv-loop μ-loop
-returns c = let a = c .before .args in length-other (a .s .now) (a .from) (a .n) (a .t .now) (c .before .pre) (c .if1 .taken)
-
-loop-holds : tie.Need-loop-holds Inv-loop μ-loop
-loop-holds c = matching-start _ _ _ _
-
-returns-2 : tie.Need-returns-2 Inv-loop μ-loop
+returns-2 : tie.Need-returns-2
 returns-2 c =
-    let l = c .before .before .before .before in
-    matching-other (l .before .before .pre) (l .before .if1 .left) (l .loop .inv) (omega arith) (c .if2 .taken)
-
-loop-again : tie.Need-loop-again Inv-loop μ-loop
-loop-again c =
-    let l = c .before .before .before .before in
-    matching-step (l .before .before .pre) (l .before .if1 .left) (l .loop .inv) (omega arith) (c .if2 .left)
-
-returns-3 : tie.Need-returns-3 Inv-loop μ-loop
-returns-3 c = matching-all (c .before .before .before .pre) (c .before .before .if1 .left) (c .before .loop .inv) (omega arith)
+    let a = c .before .before .before .before .args in
+    c .same-as .ensures ∙ ap (λ (m : ℕ). sameBytes (a .t .now) (take m (drop (a .from) (a .s .now)))) (c .before .if1 .left)
 
 pub same-bytes-spec : {M : Type 1} → statement M
-same-bytes-spec =
-    tie.close
-    (tie.spec Inv-loop μ-loop
-    returns
-    loop-holds
-    (λ c. search needs) (λ c. search needs) (λ c. search needs)
-    returns-2
-    (λ c. search needs) (λ c. search needs)
-    loop-again
-    returns-3)
+same-bytes-spec = tie.close (tie.spec returns same-as-requires returns-2)

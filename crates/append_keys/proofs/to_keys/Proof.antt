@@ -1,4 +1,4 @@
--- `append_block::to_keys` meets its contract: each test's fact is said once, at its place, and each return cites what the tests have shown. Assumes nothing.
+-- `append_keys::to_keys` meets its contract: each test's fact is said once, at its place, and each return cites what the tests have shown. Assumes nothing.
 use mathlib.Core.Path.{_≡_, refl, sym, ap, _∙_}
 use mathlib.Core.Bool.{true, false}
 use lib.IntN.{ℤ}
@@ -19,9 +19,9 @@ use Rattle.append.specs.Appending.{Lent, lent, roomOf, heldIn}
 use Rattle.append.specs.Asking.{Found}
 use Rattle.append.proofs.Passed as laws
 use Rattle.copies.proofs.Refused as refused
-use Rattle.append_runs.proofs.Ways as ways
-use Rattle.append_block.proofs.to_keys.Statement.{statement}
-use Rattle.append_block.proofs.to_keys.Tie as tie
+use Rattle.append_times.proofs.Ways as ways
+use Rattle.append_keys.proofs.to_keys.Statement.{statement}
+use Rattle.append_keys.proofs.to_keys.Tie as tie
 
 -- the lent areas; the row, which was passed on as the bits of its integer
 abbrev areas : tie.Start → Lent

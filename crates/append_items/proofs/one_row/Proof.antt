@@ -1,4 +1,4 @@
--- `append_runs::one_row` meets its contract: the row is counted in, and then written. Assumes nothing.
+-- `append_items::one_row` meets its contract: the row is counted in, and then written. Assumes nothing.
 use native.Mathlib.Omega.{arith}
 use mathlib.Core.Path.{_≡_, refl, sym, ap, _∙_}
 use mathlib.Core.Bool.{true, false, cond}
@@ -16,8 +16,8 @@ use Rattle.append.specs.Asking.{Stores}
 use Rattle.append.proofs.Items as items
 use Rattle.append.proofs.Passed as laws
 use Rattle.append.proofs.Passed.{Taken}
-use Rattle.append_runs.proofs.one_row.Statement.{statement}
-use Rattle.append_runs.proofs.one_row.Tie as tie
+use Rattle.append_items.proofs.one_row.Statement.{statement}
+use Rattle.append_items.proofs.one_row.Tie as tie
 
 -- the lent areas; the row, which was passed on as the bits of its integer
 abbrev areas : tie.Start → Lent

@@ -1,4 +1,4 @@
--- `append_block::one_key` meets its contract: the row is counted in, and then written. Assumes nothing.
+-- `append_keys::one_key` meets its contract: the row is counted in, and then written. Assumes nothing.
 use mathlib.Core.Path.{_≡_, sym, ap, _∙_}
 use mathlib.Core.Bool.{false}
 use lib.IntN.{ℤ}
@@ -12,8 +12,8 @@ use Rattle.needs.proofs.Encodings.{keys-stored, keys-flagged, keys-coded, keys-
 use Rattle.append.specs.Appending.{Lent, lent, roomOf}
 use Rattle.append.proofs.Passed as laws
 use Rattle.append.proofs.Passed.{Taken}
-use Rattle.append_block.proofs.one_key.Statement.{statement}
-use Rattle.append_block.proofs.one_key.Tie as tie
+use Rattle.append_keys.proofs.one_key.Statement.{statement}
+use Rattle.append_keys.proofs.one_key.Tie as tie
 
 -- the lent areas; the row, which was passed on as the bits of its integer
 abbrev areas : tie.Start → Lent

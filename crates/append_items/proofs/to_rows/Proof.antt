@@ -1,4 +1,4 @@
--- `append_runs::to_rows` meets its contract: each test's fact is said once, at its place, and each return cites what the tests have shown. Assumes nothing.
+-- `append_items::to_rows` meets its contract: each test's fact is said once, at its place, and each return cites what the tests have shown. Assumes nothing.
 use mathlib.Core.Path.{_≡_, refl, sym, ap, _∙_}
 use mathlib.Core.Bool.{true, false}
 use lib.IntN.{ℤ, pos}
@@ -16,9 +16,9 @@ use Rattle.step.proofs.Steps.{step-rows}
 use Rattle.append.specs.Appending.{Lent, lent, roomOf, heldIn}
 use Rattle.append.specs.Asking.{Found}
 use Rattle.copies.proofs.Refused as refused
-use Rattle.append_runs.proofs.Ways as ways
-use Rattle.append_runs.proofs.to_rows.Statement.{statement}
-use Rattle.append_runs.proofs.to_rows.Tie as tie
+use Rattle.append_times.proofs.Ways as ways
+use Rattle.append_items.proofs.to_rows.Statement.{statement}
+use Rattle.append_items.proofs.to_rows.Tie as tie
 
 -- the lent areas; the row, which was passed on as the bits of its integer
 abbrev areas : tie.Start → Lent
