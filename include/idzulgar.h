@@ -30,7 +30,7 @@ extern "C" {
 /* What comes back. */
 enum {
     IDZ_DONE = 0,
-    IDZ_COLUMN = 1,      /* kind, encoding or width is not one of the pairs */
+    IDZ_COLUMN = 1,      /* kind, encoding or width is not one of the pairs; to be salvaged, the encoding is not dictionary */
     IDZ_ITEM = 2,        /* an appended item doesn't fit its kind: an integer outside it, a char item longer than the width, or a char
                             or string item that isn't text */
     IDZ_LIMIT = 3,       /* a limit is passed: rows 281,474,976,710,655; stored items or runs 1,048,576; entries 65,536;
@@ -161,6 +161,12 @@ typedef struct {
     uint8_t number;
     size_t ranges; /* ranges written, and there are no others */
 } idz_compared;
+
+typedef struct {
+    uint8_t number;
+    size_t len;    /* bytes of the block that was written */
+    size_t ranges; /* ranges written, and there are no others */
+} idz_salvaged;
 
 /* Opens a block of `rows` rows: 0 exactly for a sound block, else 1, 3 or 10 to 17. The block isn't kept: lend it to each call. */
 idz_opening idz_open(size_t kind, size_t encoding, size_t width, size_t rows, const uint8_t *block, size_t block_len);
@@ -297,6 +303,31 @@ idz_written idz_sheet_write(const size_t *columns, size_t columns_len, const uin
  * item with one. */
 idz_compared idz_compare(idz_descriptor a, const uint8_t *first, size_t first_len, idz_descriptor b, const uint8_t *second,
                          size_t second_len, size_t *firsts, size_t firsts_len, size_t *lasts, size_t lasts_len);
+
+/* Gives back the rows of a dictionary block of which some keys name no entry (opening's 15), if that is all that is wrong with it. A row
+ * whose key names no entry is lost and becomes null; all others stay, nulls too, whose key is a good one. The block that a builder gives for
+ * these rows goes to `out`: it is sound, and has as many rows. The ranges of lost rows go to `firsts` and `lasts`, as those of idz_compare
+ * do: the first row and the last of each, counted from 0; they ascend, and each is as long as it can be. Bytes of `out` behind the block
+ * stay, and so do slots behind the ranges.
+ *
+ * A sound block gives no ranges and a block of equal rows. A builder's comes back byte for byte, unless a char row was appended with a NUL in
+ * it; of others runs of equal rows are joined up to 4,294,967,295 rows, entries stand in the order of their first use, those that read the
+ * same are one, and those that no row has are left out; a bool is 0 or 1, and behind the first NUL of a char item come NULs alone.
+ *
+ *     idz_descriptor rates = {IDZ_F64, IDZ_DICTIONARY, 0, 0, 400};
+ *     idz_salvaged salvaged = idz_salvage(rates, block, block_len, firsts, 100, lasts, 100, out, block_len);
+ *     if (salvaged.number != IDZ_DONE) return salvaged.number;
+ *     for (size_t at = 0; at < salvaged.ranges; at++) printf("lost: %zu to %zu\n", firsts[at], lasts[at]);
+ *     idz_opening opening = idz_open(IDZ_F64, IDZ_DICTIONARY, 0, 400, out, salvaged.len);
+ *
+ * Refuses in this order: 1 for any encoding but dictionary, and for what is opening's 1, a zero bit that is set among it; what opening would
+ * refuse the block as if every key were good, so never 15; 4 if `out` is shorter than the block that is due, or either list than the number
+ * of ranges. Nothing is written then. The block that is due is never longer than the one that is lent: `out` of as many bytes always has
+ * room. And no block has more than 524,288 ranges.
+ *
+ * It goes over the runs some times, however many rows they have, and looks for each one's entry among the others as an append does. */
+idz_salvaged idz_salvage(idz_descriptor d, const uint8_t *block, size_t block_len, size_t *firsts, size_t firsts_len, size_t *lasts,
+                         size_t lasts_len, uint8_t *out, size_t out_len);
 
 #ifdef __cplusplus
 }

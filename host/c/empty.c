@@ -263,6 +263,36 @@ static void comparing(int kind, int encoding, size_t width) {
     }
 }
 
+/* A column of a row whose key names no entry salvaged: of a block that is missing the column has no rows. */
+static void salvaging(int kind, size_t width) {
+    idz_builder builder = append(idz_create((size_t)kind, IDZ_DICTIONARY, width, 0).builder, 0, NULL, ONE_BYTE).builder;
+    size_t len = finish(builder, 0, NULL).len;
+    uint8_t block[sizeof memory.out];
+    memcpy(block, memory.out, len);
+    block[21] = 2; /* behind 20 bytes of lengths and one of the count */
+    for (unsigned missing = 0; missing < 16; missing++) {
+        idz_descriptor d = {(size_t)kind, IDZ_DICTIONARY, width, 0, missing & 1 ? 0 : 1};
+        uint8_t due = missing & 1 ? IDZ_CUT : missing ? IDZ_ROOM : IDZ_DONE;
+        struct memory before = memory, after = memory;
+        for (int pointer = 0; pointer < 2; pointer++) {
+            void *none = pointer == 0 ? NULL : &elsewhere;
+            size_t firsts[] = {77, 77}, lasts[] = {77, 77}, slot = due == IDZ_DONE ? 0 : 77;
+            memory = before;
+            idz_salvaged answer = idz_salvage(d, missing & 1 ? none : block, missing & 1 ? 0 : len, missing & 2 ? none : firsts,
+                                              missing & 2 ? 0 : 2, missing & 4 ? none : lasts, missing & 4 ? 0 : 2,
+                                              missing & 8 ? none : memory.out, missing & 8 ? 0 : sizeof memory.out);
+            expect(answer.number == due && answer.ranges == (due == IDZ_DONE), "a column salvaged", kind, IDZ_DICTIONARY);
+            expect(answer.len == (due == IDZ_DONE ? 25 : 0), "and the length of its block", kind, IDZ_DICTIONARY);
+            expect(firsts[0] == slot && lasts[0] == slot && firsts[1] == 77 && lasts[1] == 77, "the slots", kind, IDZ_DICTIONARY);
+            if (pointer == 0) {
+                after = memory;
+            }
+        }
+        expect(same_memory(after) && (due == IDZ_DONE || same_memory(before)), "what salvaging leaves", kind, IDZ_DICTIONARY);
+        memory = before;
+    }
+}
+
 int main(void) {
     for (int kind = IDZ_BOOL; kind <= IDZ_F64; kind++) {
         for (int encoding = IDZ_PLAIN; encoding <= IDZ_DICTIONARY; encoding++) {
@@ -271,6 +301,7 @@ int main(void) {
             some(kind, encoding, width);
             comparing(kind, encoding, width);
         }
+        salvaging(kind, kind == IDZ_CHAR ? 2 : 0);
     }
     sheet_files();
     expect(given_null == 0, "no NULL goes to the C library", -1, -1);

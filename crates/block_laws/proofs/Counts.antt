@@ -176,7 +176,7 @@ runs-count : (inner : ℕ → List ℕ → ℕ) (n m : ℕ) (b : List ℕ) → r
 runs-count inner n m b h k = total-one (sym (runs-sound inner n b h .sum) ∙ runs-sound inner m b k .sum)
 
 dictionary-count : (k : Kind) (n m : ℕ) (b : List ℕ) → dictionaryNumber k n b ≡ 0 → dictionaryNumber k m b ≡ 0 → n ≡ m
-dictionary-count k n m b h i = total-one (sym (dictionary-sound k n b h .key-runs .sum) ∙ dictionary-sound k m b i .key-runs .sum)
+dictionary-count k n m b h i = total-one (sym (dictionary-sound k n b h .parts .key-runs .sum) ∙ dictionary-sound k m b i .parts .key-runs .sum)
 
 -- ---- every encoding
 rules-count : (k : Kind) (e : Encoding) → Wide k → (n m : ℕ) (b : List ℕ) → rulesOf k e n b ≡ 0 → rulesOf k e m b ≡ 0 → n ≡ m

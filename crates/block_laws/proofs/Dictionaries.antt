@@ -5,28 +5,28 @@ use native.Mathlib.Omega.{arith}
 use mathlib.Core.List.{List, [], _∷_, map, map-map}
 use mathlib.Core.Path.{_≡_, refl, ap, _∙_}
 use lib.ListN.{length, getD, length-append, length-map}
-use borrow.Author.Tests.{le-ltb}
 use Rattle.encode.specs.declared.Kind.{Kind}
 use Rattle.limits.specs.Limits.{MOST_ENTRIES, MOST_ITEMS}
 use Rattle.plain.specs.Each.{Each}
 use Rattle.plain.specs.Rows.{Row, null, int, bytes, intIn}
-use Rattle.plain.specs.Rules.{firstOf}
 use Rattle.plain.specs.Plain.{joined, plainOf, plainNumber, plainRow}
 use Rattle.plain.proofs.Each.{each-more}
 use Rattle.nullable.specs.Nullable.{presence}
 use Rattle.rle.specs.RunLength.{runsOf, runLengthOf, runsIn, countsLength, countsPart, innerPart, runLengthNumber, runNumbers}
 use Rattle.dict.specs.Dictionary.{i32, indexOf, entriesOf, keyOf, keyBlockOf, dictionaryOf, keyLength, entriesIn, keyPart, entriesPart}
 use Rattle.dict.specs.Dictionary.{slotAt, keysNumber, dictionaryNumber, entryRow}
+use Rattle.dict.proofs.Entries.{index-row}
 use Rattle.dict.proofs.Parts.{key-length-of-block, entries-of-block, key-part-of-block, entries-part-of-block}
 use Rattle.dict.proofs.Slots.{known-all}
 use Rattle.format.specs.Blocks.{cut, filled}
 use Rattle.format.specs.Sizes.{runRows, keysOf}
+use Rattle.format.proofs.Sound.{rules-kept}
 use Rattle.block_laws.proofs.Lists.{each-at, each-map, map-each}
 use Rattle.block_laws.proofs.Plains.{Fits, kept, plain-opens, plain-row}
 use Rattle.block_laws.proofs.Nullables.{present-kept}
 use Rattle.block_laws.proofs.Runs.{each-run}
 use Rattle.block_laws.proofs.RunLengths.{inner-small, run-length-opens, run-length-rows, run-length-each}
-use Rattle.block_laws.proofs.Entries.{Entered, index-row, all-entered, each-entry, key-fits, slotOf, slot-null, slot-int, slot-bytes, slot-small}
+use Rattle.block_laws.proofs.Entries.{Entered, all-entered, each-entry, key-fits, slotOf, slot-null, slot-int, slot-bytes, slot-small}
 
 module _ (k : Kind) (rows : List Row) (f : Each (Fits k) rows) (few : length (runsOf (keysOf rows)) ≤ MOST_ITEMS)
     (some : length (entriesOf rows) ≤ MOST_ENTRIES) (small : length (dictionaryOf k rows) < 2 ^ 32) where
@@ -109,20 +109,12 @@ module _ (k : Kind) (rows : List Row) (f : Each (Fits k) rows) (few : length (ru
   entries-told = entries-of-block k rows (omega arith)
 
   pub dictionary-opens : dictionaryNumber k (length rows) block ≡ 0
-  unfolding dictionaryNumber firstOf
+  unfolding dictionaryNumber
   dictionary-opens =
-      let a : 12 ≤ length block = omega (arith, length-block) in
-      let c : 12 + length (keyBlockOf rows) ≤ length block = omega (arith, length-block) in
-      rw (
-        keys-told,
-        entries-told,
-        key-part-of-block k rows,
-        entries-part-of-block k rows,
-        key-block-opens,
-        keys-known,
-        plain-opens k es entries-fit entries-small,
-      )
-      (simp (le-ltb (length block) 12 a, le-ltb MOST_ENTRIES (length es) some, le-ltb (length block) (12 + length (keyBlockOf rows)) c))
+      rules-kept k (length rows) block _ (length (keyBlockOf rows)) (length es) keys-told entries-told (omega (arith, length-block)) some
+      (rw (key-part-of-block k rows) key-block-opens)
+      (rw (keys-told, entries-told, key-part-of-block k rows) keys-known)
+      (rw (entries-part-of-block k rows) (plain-opens k es entries-fit entries-small))
 
   -- ---- the rows
   entry-kept : (r : Row) (e : indexOf r es < length es) → plainRow k (length es) (plainOf k es) (indexOf r es) ≡ kept k r

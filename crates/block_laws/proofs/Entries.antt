@@ -4,56 +4,25 @@ use Prim.Native.Nat.{ℕ, suc, _-_, _≤_, _<_}
 use native.Mathlib.Omega.{arith}
 use mathlib.Core.Bool.{Bool, true, false, cond}
 use mathlib.Core.List.{List, [], _∷_, _++_}
-use mathlib.Core.Path.{_≡_, refl, sym}
+use mathlib.Core.Path.{_≡_, refl}
 use lib.Dec.{ltb}
 use lib.IntN.{ℤ, pos, _+ℤ_, natAbs}
-use lib.ListN.{length, getD}
+use lib.ListN.{length, length-append}
 use borrow.Author.Tests.{ltb-true, lt-ltb}
 use Rattle.encode.specs.Kinds.{takes}
 use Rattle.encode.specs.declared.Primitive.the-variants.{I32}
 use Rattle.limits.specs.Limits.{MOST_ENTRIES}
 use Rattle.plain.specs.Each.{Each}
-use Rattle.plain.specs.Rows.{Row, null, int, bytes, intIn, fits, same}
+use Rattle.plain.specs.Rows.{Row, null, int, bytes, intIn, fits}
 use Rattle.plain.proofs.Each.{each-append}
-use Rattle.plain.proofs.Same.{same-equal, same-self}
 use Rattle.dict.specs.Dictionary.{i32, indexOf, withEntry, entriesAfter, entriesOf, nullKey, entryKey, keyOf}
+use Rattle.dict.proofs.Entries.{index-kept, last-there}
 use Rattle.dict.proofs.Slots.{null-slot, entry-slot}
 use Rattle.block_laws.proofs.Plains.{Fits}
 
--- ---- the place of a row among the entries
-pub index-row : (r : Row) (es : List Row) → indexOf r es < length es → getD es (indexOf r es) null ≡ r
-unfolding indexOf
-index-row r [] h = absurd (omega arith)
-index-row r (e ∷ es) h = go (same r e) refl h (index-row r es)
-  where
-    go : (t : Bool) → same r e ≡ t → cond t 0 (suc (indexOf r es)) < suc (length es)
-        → (indexOf r es < length es → getD es (indexOf r es) null ≡ r)
-        → getD (e ∷ es) (cond t 0 (suc (indexOf r es))) null ≡ r
-    go true q l ih = sym (same-equal r e q)
-    go false q l ih = ih (omega arith)
-
--- entries are added at the end
+-- ---- a row that is one of the entries stays one of more entries
 index-more : (r : Row) (es more : List Row) → indexOf r es < length es → indexOf r (es ++ more) < length (es ++ more)
-unfolding indexOf
-index-more r [] more h = absurd (omega arith)
-index-more r (e ∷ es) more h = go (same r e) h (index-more r es more)
-  where
-    go : (t : Bool) → cond t 0 (suc (indexOf r es)) < suc (length es)
-        → (indexOf r es < length es → indexOf r (es ++ more) < length (es ++ more))
-        → cond t 0 (suc (indexOf r (es ++ more))) < suc (length (es ++ more))
-    go true l ih = omega arith
-    go false l ih = let m : indexOf r (es ++ more) < length (es ++ more) = ih (omega arith) in omega arith
-
--- a row that comes last is there
-index-last : (r : Row) (es : List Row) → indexOf r (es ++ (r ∷ [])) < length (es ++ (r ∷ []))
-unfolding indexOf
-index-last r [] = simp (same-self r) (omega arith)
-index-last r (e ∷ es) = go (same r e) (index-last r es)
-  where
-    go : (t : Bool) → indexOf r (es ++ (r ∷ [])) < length (es ++ (r ∷ []))
-        → cond t 0 (suc (indexOf r (es ++ (r ∷ [])))) < suc (length (es ++ (r ∷ [])))
-    go true h = omega arith
-    go false h = omega arith
+index-more r es more h = omega (arith, index-kept r es more h, length-append es more)
 
 -- ---- a null, or one of the entries
 abbrev pub Entered : List Row → Row → Type 0
@@ -83,7 +52,7 @@ module _ (es : List Row) (x : Row) where
     where
       go : (t : Bool) → ltb (indexOf x es) (length es) ≡ t → indexOf x (cond t es (es ++ (x ∷ []))) < length (cond t es (es ++ (x ∷ [])))
       go true e = ltb-true (indexOf x es) (length es) e
-      go false e = index-last x es
+      go false e = ltb-true (indexOf x (es ++ (x ∷ []))) (length (es ++ (x ∷ []))) (last-there x es)
 
   each-added : (P : Row → Type 0) → Each P es → P x → Each P added
   each-added P h k = go (ltb (indexOf x es) (length es))

@@ -87,7 +87,7 @@ module _ (kind encoding width n : ℕ) (b : List ℕ) (k : Kind) (c : columnOf k
       let s = keys-sound k n b (column-sound k Dictionary n b (sound h) .rules) in
       let runs : ℕ = headOf Dictionary b .runs in
       let counts : List ℕ = countsIn Dictionary (headOf Dictionary b) b in
-      steps-length runs counts n (spot 0 0 0) (whole-steps runs counts n (s .key-runs .sum) .1)
+      steps-length runs counts n (spot 0 0 0) (whole-steps runs counts n (s .parts .key-runs .sum) .1)
 
   -- So no unknown key is read as null: where row j of a sound block is null, the key of the run that it lies in is null's.
   pub unknown-key-never-null :

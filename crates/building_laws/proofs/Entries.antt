@@ -11,44 +11,12 @@ use lib.ListN.{length, length-append}
 use borrow.Author.Tests.{lt-ltb, ltb-true, ltb-false, eqb-true, eqb-false, eq-eqb, ne-eqb}
 use Rattle.limits.specs.Limits.{MOST_ENTRIES}
 use Rattle.plain.specs.Each.{Each}
-use Rattle.plain.specs.Rows.{Row, null, int, bytes, same, fits}
+use Rattle.plain.specs.Rows.{Row, null, int, bytes, fits}
 use Rattle.plain.proofs.Each.{each-append}
 use Rattle.nullable.specs.Nullable.{presence}
 use Rattle.dict.specs.Dictionary.{i32, indexOf, withEntry, entriesAfter, entriesOf, nullKey, entryKey, keyOf}
+use Rattle.dict.proofs.Entries.{index-most, index-kept, index-new, after-append}
 use Rattle.format.specs.Sizes.{keysOf}
-use Rattle.building_laws.proofs.Same.{same-refl}
-
--- ---- the place of a row among the entries
-pub index-most : (x : Row) (es : List Row) → indexOf x es ≤ length es
-unfolding indexOf
-index-most x [] = omega arith
-index-most x (e ∷ es) = go (same x e) (index-most x es)
-  where
-    go : (t : Bool) → indexOf x es ≤ length es → cond t 0 (suc (indexOf x es)) ≤ suc (length es)
-    go true h = omega arith
-    go false h = omega arith
-
--- one that is there stays where it is
-pub index-kept : (x : Row) (es fs : List Row) → indexOf x es < length es → indexOf x (es ++ fs) ≡ indexOf x es
-unfolding indexOf
-index-kept x [] fs h = absurd (omega arith)
-index-kept x (e ∷ es) fs h = go (same x e) h (index-kept x es fs)
-  where
-    go : (t : Bool) → cond t 0 (suc (indexOf x es)) < suc (length es) → (indexOf x es < length es → indexOf x (es ++ fs) ≡ indexOf x es)
-        → cond t 0 (suc (indexOf x (es ++ fs))) ≡ cond t 0 (suc (indexOf x es))
-    go true l ih = refl
-    go false l ih = ap suc (ih (omega arith))
-
--- one that is new comes last
-pub index-new : (x : Row) (es : List Row) → indexOf x es ≡ length es → indexOf x (es ++ (x ∷ [])) ≡ length es
-unfolding indexOf
-index-new x [] h = rw (same-refl x)
-index-new x (e ∷ es) h = go (same x e) h (index-new x es)
-  where
-    go : (t : Bool) → cond t 0 (suc (indexOf x es)) ≡ suc (length es) → (indexOf x es ≡ length es → indexOf x (es ++ (x ∷ [])) ≡ length es)
-        → cond t 0 (suc (indexOf x (es ++ (x ∷ [])))) ≡ suc (length es)
-    go true l ih = absurd (omega arith)
-    go false l ih = ap suc (ih (omega arith))
 
 -- ---- one row more
 -- a row that is present and new is one entry more
@@ -77,8 +45,7 @@ with-entry es (bytes bs) = tested (bytes bs) es
 
 after-snoc : (es rows : List Row) (x : Row) → entriesAfter es (rows ++ (x ∷ [])) ≡ withEntry (entriesAfter es rows) x
 unfolding entriesAfter
-after-snoc es [] x = refl
-after-snoc es (y ∷ rows) x = after-snoc (withEntry es y) rows x
+after-snoc es rows x = after-append es rows (x ∷ [])
 
 pub entries-snoc : (rows : List Row) (x : Row) → entriesOf (rows ++ (x ∷ [])) ≡ cond (isNew (entriesOf rows) x) (entriesOf rows ++ (x ∷ [])) (entriesOf rows)
 unfolding entriesOf

@@ -19,8 +19,9 @@ use Rattle.sheet.specs.declared.Found.{Found}
 use Rattle.sheet_writer.specs.declared.Written.{Written}
 use Rattle.descriptor.specs.declared.Descriptor.{Descriptor}
 use Rattle.comparing.specs.declared.Compared.{Compared}
+use Rattle.salvaging.specs.declared.Salvaged.{Salvaged}
 use Rattle.capi.specs.declared.building.Creation.{Creation}
-use Rattle.capi.specs.Promises.{Opens, Reads, Remains, Creates, Finishes, Estimates, Asks, OpensColumn, WritesSheet, Compares}
+use Rattle.capi.specs.Promises.{Opens, Reads, Remains, Creates, Finishes, Estimates, Asks, OpensColumn, WritesSheet, Compares, Salvages}
 
 -- ---- reading
 pub one-opening : (kind encoding width rows : ℕ) (block : List ℕ) (x y : Opening) → Opens kind encoding width rows block x → Opens kind encoding width rows block y → x ≡ y
@@ -60,3 +61,9 @@ one-sheet columns blocks room x y a b p q = (p .0 ∙ sym (q .0), p .1 ∙ sym (
 pub one-compare : (a : Descriptor) (first : List ℕ) (b : Descriptor) (second firsts lasts : List ℕ) (x y : Compared) (f g l m : List ℕ)
     → Compares a first b second firsts lasts x f l → Compares a first b second firsts lasts y g m → (x ≡ y) × (f ≡ g) × (l ≡ m)
 one-compare a first b second firsts lasts x y f g l m p q = (p .0 ∙ sym (q .0), p .1 ∙ sym (q .1), p .2 ∙ sym (q .2))
+
+-- ---- a damaged block
+pub one-salvage : (d : Descriptor) (block firsts lasts room : List ℕ) (x y : Salvaged) (f g l m a b : List ℕ)
+    → Salvages d block firsts lasts room x f l a → Salvages d block firsts lasts room y g m b → (x ≡ y) × (f ≡ g) × (l ≡ m) × (a ≡ b)
+one-salvage d block firsts lasts room x y f g l m a b p q =
+    (p .0 ∙ sym (q .0), p .1 ∙ sym (q .1), p .2 ∙ sym (q .2), p .3 ∙ sym (q .3))

@@ -23,6 +23,8 @@ use Rattle.sheet_writer.specs.Writing.{write}
 use Rattle.descriptor.specs.declared.Descriptor.{Descriptor}
 use Rattle.comparing.specs.declared.Compared.{Compared}
 use Rattle.comparing.specs.Comparing.{compare}
+use Rattle.salvaging.specs.declared.Salvaged.{Salvaged}
+use Rattle.salvaging.specs.Salvaging.{salvage}
 use Rattle.capi.specs.declared.building.Creation.{Creation}
 use Rattle.capi.specs.Answers.{creationOf}
 
@@ -68,3 +70,11 @@ Compares a first b second firsts lasts answer firsts′ lasts′ =
     (answer ≡ compare a first b second firsts lasts .answer)
     × (firsts′ ≡ compare a first b second firsts lasts .firsts)
     × (lasts′ ≡ compare a first b second firsts lasts .lasts)
+
+-- ---- a damaged block
+abbrev pub Salvages : (d : Descriptor) (block firsts lasts room : List ℕ) → Salvaged → List ℕ → List ℕ → List ℕ → Type 0
+Salvages d block firsts lasts room answer firsts′ lasts′ out =
+    (answer ≡ salvage d block firsts lasts room .answer)
+    × (firsts′ ≡ salvage d block firsts lasts room .firsts)
+    × (lasts′ ≡ salvage d block firsts lasts room .lasts)
+    × (out ≡ salvage d block firsts lasts room .out)

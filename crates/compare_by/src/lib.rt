@@ -37,7 +37,7 @@ fn print_by(first: &[u8], second: &[u8], firsts: &mut [usize], lasts: &mut [usiz
         printing::say_refused(answer.number);
         return answer.number;
     }
-    say_ranges(answer.ranges, firsts, lasts);
+    range_lines::say_ranges(answer.ranges, firsts, lasts);
     0
 }
 
@@ -107,29 +107,4 @@ fn descriptor_in(file: &[u8]) -> Descriptor
     ensures { λ r. ⌜ r ≡ descriptorIn (now (file .entry)) ⌝ }
 {
     descriptor::unpack(plain::item(file, 0, 8))
-}
-
-// ---- printing
-
-fn say(text: &[u8]) {
-    io::write_all(1, text);
-}
-
-fn say_range(first: usize, last: usize) {
-    io::print_decimal(1, first as u64);
-    say(b" ");
-    io::print_decimal(1, last as u64);
-    say(b"\n");
-}
-
-// The first n ranges of the lists, and `end`.
-fn say_ranges(n: usize, firsts: &[usize], lasts: &[usize])
-    requires { ⌜ (n ≤ length (now firsts)) × (n ≤ length (now lasts)) ⌝ }
-{
-    let mut i = 0;
-    while i < n {
-        say_range(firsts[i], lasts[i]);
-        i += 1;
-    }
-    say(b"end\n");
 }

@@ -1,3 +1,4 @@
 pub mod Head
 pub mod Slots
 pub mod Parts
+pub mod Entries

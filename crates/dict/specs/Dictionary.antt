@@ -86,16 +86,20 @@ known entries keys (i ∷ is) = leb (slotAt keys i) entries && known entries key
 unfoldable pub keysNumber : ℕ → List ℕ → ℕ
 keysNumber entries b = KEY if not (known entries (innerPart (countsLength b) b) (places (runsIn b) 0))
 
-unfoldable pub dictionaryNumber : Kind → ℕ → List ℕ → ℕ
-dictionaryNumber k n b =
+-- the rules in order, with what rule 15 gives in its place
+unfoldable pub dictionaryRules : ℕ → Kind → ℕ → List ℕ → ℕ
+dictionaryRules fifteen k n b =
     firstOf (
     CUT if ltb (length b) 12
     ∷ LIMIT if ltb MOST_ENTRIES (entriesIn b)
     ∷ CUT if ltb (length b) (12 + keyLength b)
     ∷ runLengthNumber (plainNumber i32) n (keyPart (keyLength b) b)
-    ∷ keysNumber (entriesIn b) (keyPart (keyLength b) b)
+    ∷ fifteen
     ∷ plainNumber k (entriesIn b) (entriesPart (keyLength b) b)
     ∷ [])
+
+unfoldable pub dictionaryNumber : Kind → ℕ → List ℕ → ℕ
+dictionaryNumber k n b = dictionaryRules (keysNumber (entriesIn b) (keyPart (keyLength b) b)) k n b
 
 -- ---- the rows: the entry that a key names
 unfoldable pub entryRow : Kind → ℕ → List ℕ → ℕ → Row

@@ -20,7 +20,7 @@ ghost use Rattle.emit.specs.Parts.{heldPlain, heldBitmap, heldInner, hel
 // ---- the parts of a block, each written at a place; the place behind it is the answer
 
 // A number's four bytes, lowest first.
-fn put_low4(n: usize, out: &mut [u8], at: usize) -> usize
+pub fn put_low4(n: usize, out: &mut [u8], at: usize) -> usize
     requires { ⌜ at + 4 ≤ length (now out) ⌝ }
     ensures { λ r. ⌜ r ≡ at + 4 ⌝ }
     ensures { λ _. ⌜ now (out .exit) ≡ sets (now (out .entry)) at (little 4 n) ⌝ }
@@ -145,7 +145,7 @@ pub fn counts_len(n: usize, counts: &[u32]) -> usize
 }
 
 // One count; the place behind it. There is room for it, so the answer that there is none never comes.
-fn write_count(value: u32, out: &mut [u8], at: usize) -> usize
+pub fn write_count(value: u32, out: &mut [u8], at: usize) -> usize
     requires { ⌜ at + length (spelling value) ≤ length (now out) ⌝ }
     ensures { λ r. ⌜ r ≡ at + length (spelling value) ⌝ }
     ensures { λ _. ⌜ now (out .exit) ≡ sets (now (out .entry)) at (spelling value) ⌝ }

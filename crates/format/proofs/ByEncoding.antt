@@ -13,7 +13,7 @@ use Rattle.format.specs.declared.Encoding.{Encoding}
 use Rattle.format.specs.declared.Encoding.the-variants.{Plain, Nullable, RunLength, RunLengthNullable, Dictionary}
 use Rattle.format.specs.declared.Found.{Found}
 use Rattle.format.specs.Opening.{mostRows, rulesOf, head, headOf}
-use Rattle.format.specs.Found.{foundBy, innerNumber, runsHead}
+use Rattle.format.specs.Found.{foundBy, innerNumber, runsHead, keysAsked, dictionaryAsked}
 
 module _ (k : Kind) {e : Encoding} (n : ℕ) (b : List ℕ) {r : Found} where
   -- an answer for the encoding that a match found
@@ -40,8 +40,8 @@ module _ (k : Kind) {e : Encoding} (n : ℕ) (b : List ℕ) {r : Found} where
   run-length-nullable-found q p = same RunLengthNullable q p
 
   pub dictionary-found :
-      e ≡ Dictionary → r ≡ foundBy (dictionaryNumber k n b) (headOf Dictionary b) → r ≡ foundBy (rulesOf k e n b) (headOf e b)
-  unfolding rulesOf
+      e ≡ Dictionary → r ≡ foundBy (dictionaryAsked true k n b) (headOf Dictionary b) → r ≡ foundBy (rulesOf k e n b) (headOf e b)
+  unfolding rulesOf dictionaryNumber dictionaryAsked keysAsked
   dictionary-found q p = same Dictionary q p
 
 -- ---- where every row is a stored item, rows have the limit of items

@@ -4,7 +4,7 @@ use native.Mathlib.Omega.{arith}
 use mathlib.Core.Bool.{Bool, true, false}
 use mathlib.Core.List.{List, [], _∷_}
 use mathlib.Core.Logic.{⊎-elim}
-use mathlib.Core.Path.{_≡_, sym, ap, _∙_}
+use mathlib.Core.Path.{_≡_, refl, sym, ap, _∙_}
 use lib.ListN.{length, take, drop}
 use Rattle.limits.specs.Refusals.{KEY}
 use Rattle.plain.specs.Plain.{places, plainNumber}
@@ -15,7 +15,7 @@ use Rattle.dict.specs.Dictionary.{i32, known, keysNumber}
 use Rattle.format.specs.declared.Head.{Head}
 use Rattle.format.specs.declared.Found.{Found}
 use Rattle.format.specs.declared.Found.the-variants.{Sound, Refused}
-use Rattle.format.specs.Found.{foundBy, innerNumber, runsHead, keyBlockNumber}
+use Rattle.format.specs.Found.{foundBy, innerNumber, runsHead, keysAsked, keyBlockNumber}
 use Rattle.format.proofs.Answers.{first-one, broken-first, kept-first, refused-by, found-sound, found-refused}
 use Rattle.format.proofs.RunBlocks.{rest-of}
 use Rattle.format.proofs.Sound.{SomeRuns, SoundRuns, runs-sound}
@@ -27,9 +27,16 @@ pub keys-there :
 unfolding innerPart
 keys-there runs counts b h = rw rest-of (let l = fixed-plain I32 runs (drop (8 + counts) b) h in omega arith)
 
-module _ (n entries : ℕ) (b : List ℕ) {found : Found} (p : found ≡ foundBy (runLengthNumber (innerNumber false i32) n b) (runsHead b)) where
+-- a rule that is kept is so whether it is asked or not
+asked-kept : (asked : Bool) (entries : ℕ) (b : List ℕ) → keysNumber entries b ≡ 0 → keysAsked asked entries b ≡ 0
+unfolding keysAsked
+asked-kept true entries b h = h
+asked-kept false entries b h = refl
+
+module _ (asked : Bool) (n entries : ℕ) (b : List ℕ) {found : Found}
+    (p : found ≡ foundBy (runLengthNumber (innerNumber false i32) n b) (runsHead b)) where
   abbrev answer : Found
-  answer = foundBy (keyBlockNumber n entries b) (runsHead b)
+  answer = foundBy (keyBlockNumber asked n entries b) (runsHead b)
 
   abbrev runs-number : ℕ
   runs-number = runLengthNumber (plainNumber i32) n b
@@ -43,7 +50,7 @@ module _ (n entries : ℕ) (b : List ℕ) {found : Found} (p : found ≡ foundBy
   runs-wrong {e} q =
       let r = found-refused runs-number (runsHead b) (sym q ∙ by-runs) in
       let l : runs-number ≡ 0 → ⊥ = λ z. omega (arith, r .0, r .1) in
-      rw (broken-first runs-number (keysNumber entries b ∷ []) l) by-runs
+      rw (broken-first runs-number (keysAsked asked entries b ∷ []) l) by-runs
 
   module _ {h : Head} (q : found ≡ Sound h) where
     told : (runs-number ≡ 0) × (h ≡ runsHead b)
@@ -53,17 +60,21 @@ module _ (n entries : ℕ) (b : List ℕ) {found : Found} (p : found ≡ foundBy
     unfolding runsHead
     runs-right = rw (told .1) (runs-sound (plainNumber i32) n b (told .0))
 
-    number-is : keyBlockNumber n entries b ≡ keysNumber entries b
+    number-is : keyBlockNumber asked n entries b ≡ keysAsked asked entries b
     unfolding keyBlockNumber
-    number-is = kept-first (keysNumber entries b ∷ []) (told .0) ∙ first-one (keysNumber entries b)
+    number-is = kept-first (keysAsked asked entries b ∷ []) (told .0) ∙ first-one (keysAsked asked entries b)
 
-    -- where rule 15 is kept, the answer is that of the runs
-    same-answer : keysNumber entries b ≡ 0 → Sound h ≡ answer
+    -- where rule 15 is kept or not asked, the answer is that of the runs
+    same-answer : keysAsked asked entries b ≡ 0 → Sound h ≡ answer
     same-answer e = sym q ∙ by-runs ∙ rw (number-is, e, told .0)
 
     pub no-keys : h .runs ≡ 0 → Sound h ≡ answer
     unfolding keysNumber known places runsHead
-    no-keys e = let z : runsIn b ≡ 0 = sym (ap (λ (g : Head). g .runs) (told .1)) ∙ e in same-answer (rw z)
+    no-keys e = let z : runsIn b ≡ 0 = sym (ap (λ (g : Head). g .runs) (told .1)) ∙ e in same-answer (asked-kept asked entries b (rw z))
+
+    pub not-asked : asked ≡ false → Sound h ≡ answer
+    unfolding keysAsked
+    not-asked a = same-answer (rw a)
 
     -- there are runs: their keys stand behind the counts
     module _ (some : h .runs ≡ 0 → ⊥) where
@@ -80,8 +91,8 @@ module _ (n entries : ℕ) (b : List ℕ) {found : Found} (p : found ≡ foundBy
 
         pub keys-right : t ≡ true → Sound h ≡ answer
         unfolding keysNumber
-        keys-right e = same-answer (rw (known-is, e))
+        keys-right e = same-answer (asked-kept asked entries b (rw (known-is, e)))
 
-        pub keys-wrong : t ≡ false → Refused KEY ≡ answer
-        unfolding keysNumber
-        keys-wrong e = rw (number-is, known-is, e) (refused-by KEY (runsHead b) (λ z. omega arith))
+        pub keys-wrong : asked ≡ true → t ≡ false → Refused KEY ≡ answer
+        unfolding keysAsked keysNumber
+        keys-wrong a e = rw (number-is, a, known-is, e) (refused-by KEY (runsHead b) (λ z. omega arith))

@@ -21,7 +21,7 @@ use Rattle.rle.specs.declared.RunHead.the-variants.{Empty, Runs, Refused}
 use Rattle.rle.specs.RunLength.{runsIn, countsLength, countsPart, innerPart, walked, runLengthNumber}
 use Rattle.rle.specs.Pieces.{headFound, numberBy}
 use Rattle.rle.proofs.Opening.{head-number, head-sound, head-empty, head-refused}
-use Rattle.dict.specs.Dictionary.{i32, keyLength, entriesIn, keyPart, entriesPart, known, keysNumber, dictionaryNumber}
+use Rattle.dict.specs.Dictionary.{i32, keyLength, entriesIn, keyPart, entriesPart, known, keysNumber, dictionaryRules, dictionaryNumber}
 use Rattle.format.specs.declared.Encoding.{Encoding}
 use Rattle.format.specs.declared.Encoding.the-variants.{Plain, Nullable, RunLength, RunLengthNullable, Dictionary}
 use Rattle.format.specs.declared.Column.the-variants.{Of}
@@ -96,12 +96,18 @@ module _ (inner : ℕ → List ℕ → ℕ) (n : ℕ) where
           (record { many = s .many; sum = s .sum; either = inr (record { some = s .some; room = s .room; inside = q }) })
 
 -- ---- a dictionary block
-pub record SoundKeys (k : Kind) (n : ℕ) (b : List ℕ) (runs counts keys entries : ℕ) : Type 0 where
+-- what all rules but 15 tell: of the key block its rules, and what they tell in turn
+pub record SoundParts (k : Kind) (n : ℕ) (b : List ℕ) (runs counts keys entries : ℕ) : Type 0 where
   pub few : entries ≤ MOST_ENTRIES
   pub head-room : 12 + keys ≤ length b
+  pub key-rules : runLengthNumber (plainNumber i32) n (keyPart keys b) ≡ 0
   pub key-runs : SoundRuns (plainNumber i32) n (keyPart keys b) runs counts
-  pub all-known : known entries (innerPart counts (keyPart keys b)) (places runs 0) ≡ true
   pub entries-inside : plainNumber k entries (entriesPart keys b) ≡ 0
+
+-- with rule 15
+pub record SoundKeys (k : Kind) (n : ℕ) (b : List ℕ) (runs counts keys entries : ℕ) : Type 0 where
+  pub parts : SoundParts k n b runs counts keys entries
+  pub all-known : known entries (innerPart counts (keyPart keys b)) (places runs 0) ≡ true
 
 -- the keys of a key block: each is known
 pub keys-known :
@@ -109,23 +115,49 @@ pub keys-known :
 unfolding keysNumber
 keys-known entries b h = not-false _ (whole KEY _ (omega arith) h)
 
-pub dictionary-sound :
-    (k : Kind) (n : ℕ) (b : List ℕ) → dictionaryNumber k n b ≡ 0
-    → SoundKeys k n b (runsIn (keyPart (keyLength b) b)) (countsLength (keyPart (keyLength b) b)) (keyLength b) (entriesIn b)
-unfolding dictionaryNumber
-dictionary-sound k n b h =
-    let x = kept (CUT if ltb (length b) 12) _ h in
-    let y = kept (LIMIT if ltb MOST_ENTRIES (entriesIn b)) _ (x .1) in
-    let z = kept (CUT if ltb (length b) (12 + keyLength b)) _ (y .1) in
-    let u = kept (runLengthNumber (plainNumber i32) n (keyPart (keyLength b) b)) _ (z .1) in
-    let v = kept (keysNumber (entriesIn b) (keyPart (keyLength b) b)) _ (u .1) in
-    record {
-      few = ltb-false _ _ (whole LIMIT _ (omega arith) (y .0));
-      head-room = ltb-false _ _ (whole CUT _ (omega arith) (z .0));
-      key-runs = runs-sound (plainNumber i32) n (keyPart (keyLength b) b) (u .0);
-      all-known = keys-known (entriesIn b) (keyPart (keyLength b) b) (v .0);
-      entries-inside = sym (first-one (plainNumber k (entriesIn b) (entriesPart (keyLength b) b))) ∙ v .1;
-    }
+module _ (k : Kind) (n : ℕ) (b : List ℕ) where
+  -- the rules one by one, of what is read
+  pub rules-kept : (fifteen keys entries : ℕ) → keyLength b ≡ keys → entriesIn b ≡ entries → 12 + keys ≤ length b → entries ≤ MOST_ENTRIES
+      → runLengthNumber (plainNumber i32) n (keyPart keys b) ≡ 0 → fifteen ≡ 0 → plainNumber k entries (entriesPart keys b) ≡ 0
+      → dictionaryRules fifteen k n b ≡ 0
+  unfolding dictionaryRules firstOf
+  rules-kept fifteen keys entries e f room few runs known items =
+      let head : 12 ≤ length b = omega arith in
+      rw (e, f)
+      (simp (le-ltb (length b) 12 head, le-ltb MOST_ENTRIES entries few, le-ltb (length b) (12 + keys) room, runs, known, items))
+
+  -- and back: what the rules tell
+  pub rules-told : (fifteen : ℕ) → dictionaryRules fifteen k n b ≡ 0
+      → SoundParts k n b (runsIn (keyPart (keyLength b) b)) (countsLength (keyPart (keyLength b) b)) (keyLength b) (entriesIn b) × (fifteen ≡ 0)
+  unfolding dictionaryRules
+  rules-told fifteen h =
+      let x = kept (CUT if ltb (length b) 12) _ h in
+      let y = kept (LIMIT if ltb MOST_ENTRIES (entriesIn b)) _ (x .1) in
+      let z = kept (CUT if ltb (length b) (12 + keyLength b)) _ (y .1) in
+      let u = kept (runLengthNumber (plainNumber i32) n (keyPart (keyLength b) b)) _ (z .1) in
+      let v = kept fifteen _ (u .1) in (
+        record {
+          few = ltb-false _ _ (whole LIMIT _ (omega arith) (y .0));
+          head-room = ltb-false _ _ (whole CUT _ (omega arith) (z .0));
+          key-rules = u .0;
+          key-runs = runs-sound (plainNumber i32) n (keyPart (keyLength b) b) (u .0);
+          entries-inside = sym (first-one (plainNumber k (entriesIn b) (entriesPart (keyLength b) b))) ∙ v .1;
+        },
+        v .0,
+      )
+
+  pub dictionary-sound : dictionaryNumber k n b ≡ 0
+      → SoundKeys k n b (runsIn (keyPart (keyLength b) b)) (countsLength (keyPart (keyLength b) b)) (keyLength b) (entriesIn b)
+  unfolding dictionaryNumber
+  dictionary-sound h =
+      let t = rules-told (keysNumber (entriesIn b) (keyPart (keyLength b) b)) h in
+      record { parts = t .0; all-known = keys-known (entriesIn b) (keyPart (keyLength b) b) (t .1) }
+
+  -- A sound block keeps the rules as if every key were good.
+  pub but-keys : dictionaryNumber k n b ≡ 0 → dictionaryRules 0 k n b ≡ 0
+  but-keys h =
+      let s = dictionary-sound h .parts in
+      rules-kept 0 (keyLength b) (entriesIn b) refl refl (s .head-room) (s .few) (s .key-rules) refl (s .entries-inside)
 
 -- ---- by encoding
 module _ (k : Kind) (n : ℕ) (b : List ℕ) where
@@ -147,6 +179,12 @@ module _ (k : Kind) (n : ℕ) (b : List ℕ) where
       → SoundRuns (nullableNumber k) n b (headOf RunLengthNullable b .runs) (headOf RunLengthNullable b .counts)
   unfolding rulesOf headOf
   run-length-nullable-sound h = runs-sound (nullableNumber k) n b h
+
+  pub parts-sound :
+      dictionaryRules 0 k n b ≡ 0
+      → SoundParts k n b (headOf Dictionary b .runs) (headOf Dictionary b .counts) (headOf Dictionary b .keys) (headOf Dictionary b .entries)
+  unfolding headOf
+  parts-sound h = rules-told k n b 0 h .0
 
   pub keys-sound :
       rulesOf k Dictionary n b ≡ 0

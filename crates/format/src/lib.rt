@@ -9,10 +9,10 @@ ghost use Prim.Native.Nat.{_≤_};
 ghost use lib.ListN.{length};
 ghost use Rattle.limits.specs.Limits.{MOST_BYTES, MOST_ITEMS};
 ghost use Rattle.rle.specs.RunLength.{runLengthNumber};
-ghost use Rattle.dict.specs.Dictionary.{dictionaryNumber};
+ghost use Rattle.dict.specs.Dictionary.{dictionaryRules};
 ghost use Rattle.format.specs.Blocks.{columnOf};
 ghost use Rattle.format.specs.Opening.{mostRows, rulesOf, head, headOf};
-ghost use Rattle.format.specs.Found.{foundBy, innerNumber, runsHead, keyBlockNumber};
+ghost use Rattle.format.specs.Found.{foundBy, innerNumber, runsHead, keyBlockNumber, dictionaryAsked};
 
 // How a column is laid out: encodings 0 to 4.
 pub enum Encoding {
@@ -140,10 +140,10 @@ fn check_runs(kind: Kind, nullable: bool, rows: usize, s: &[u8]) -> Found
     }
 }
 
-// The rules of a dictionary's key block, and that each key is null or names one of `entries`.
-fn check_keys(rows: usize, s: &[u8], entries: usize) -> Found
+// The rules of a dictionary's key block, and, if that is asked, that each key is null or names one of `entries`.
+fn check_keys(asked: bool, rows: usize, s: &[u8], entries: usize) -> Found
     requires { ⌜ length (now s) ≤ MOST_BYTES ⌝ }
-    ensures { λ r. ⌜ r ≡ foundBy (keyBlockNumber rows entries (now (s .entry))) (runsHead (now (s .entry))) ⌝ }
+    ensures { λ r. ⌜ r ≡ foundBy (keyBlockNumber asked rows entries (now (s .entry))) (runsHead (now (s .entry))) ⌝ }
 {
     let found = check_runs(Kind::Fixed(Primitive::I32), false, rows, s);
     let Found::Sound(head) = found else {
@@ -153,6 +153,9 @@ fn check_keys(rows: usize, s: &[u8], entries: usize) -> Found
     if head.runs == 0 {
         return found;
     }
+    if !asked {
+        return found;
+    }
     let end = 8 + head.counts;
     if dict::known(&s[end..], head.runs, entries) {
         return found;
@@ -160,10 +163,10 @@ fn check_keys(rows: usize, s: &[u8], entries: usize) -> Found
     Found::Refused(refusal::KEY)
 }
 
-// The rules of a dictionary block.
-fn check_dictionary(kind: Kind, rows: usize, s: &[u8]) -> Found
+// The rules of a dictionary block; that of its keys only if it is asked.
+fn check_dictionary(asked: bool, kind: Kind, rows: usize, s: &[u8]) -> Found
     requires { ⌜ length (now s) ≤ MOST_BYTES ⌝ }
-    ensures { λ r. ⌜ r ≡ foundBy (dictionaryNumber kind rows (now (s .entry))) (headOf Encoding.Dictionary (now (s .entry))) ⌝ }
+    ensures { λ r. ⌜ r ≡ foundBy (dictionaryAsked asked kind rows (now (s .entry))) (headOf Encoding.Dictionary (now (s .entry))) ⌝ }
 {
     let n = s.len();
     if n < 12 {
@@ -179,7 +182,7 @@ fn check_dictionary(kind: Kind, rows: usize, s: &[u8]) -> Found
         return Found::Refused(refusal::CUT);
     }
     let end = 12 + keys;
-    let found = check_keys(rows, &s[12..end], entries);
+    let found = check_keys(asked, rows, &s[12..end], entries);
     let Found::Sound(head) = found else {
         return found;
     };
@@ -205,6 +208,14 @@ pub fn check(kind: Kind, encoding: Encoding, rows: usize, s: &[u8]) -> Found
         Encoding::Nullable => bare(nullable::check(kind, rows, s)),
         Encoding::RunLength => check_runs(kind, false, rows, s),
         Encoding::RunLengthNullable => check_runs(kind, true, rows, s),
-        Encoding::Dictionary => check_dictionary(kind, rows, s),
+        Encoding::Dictionary => check_dictionary(true, kind, rows, s),
     }
+}
+
+// The rules of a dictionary block as if every key were good.
+pub fn check_but_keys(kind: Kind, rows: usize, s: &[u8]) -> Found
+    requires { ⌜ length (now s) ≤ MOST_BYTES ⌝ }
+    ensures { λ r. ⌜ r ≡ foundBy (dictionaryRules 0 kind rows (now (s .entry))) (headOf Encoding.Dictionary (now (s .entry))) ⌝ }
+{
+    check_dictionary(false, kind, rows, s)
 }

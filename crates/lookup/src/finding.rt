@@ -149,7 +149,7 @@ fn find_eight(items: &[u8], n: usize, want: u64) -> usize
 }
 
 // The first of `n` items whose value is `value`, or `n`. A value that the kind doesn't take is none of them.
-fn find_fixed(p: Primitive, items: &[u8], n: usize, value: i64) -> usize
+pub fn find_fixed(p: Primitive, items: &[u8], n: usize, value: i64) -> usize
     requires { ⌜ n * widthOf p ≤ length (now items) ⌝ }
     ensures { λ r. ⌜ r ≡ firstValue p (now (items .entry)) n value ⌝ }
 {

@@ -3,6 +3,7 @@ mod fields;
 mod finding;
 
 pub use fields::field_wrong;
+pub use finding::find_fixed;
 pub use finding::look_up;
 pub use finding::same_item;
 

@@ -75,7 +75,7 @@ fn same_blob(n: usize, items: &[u8], i: usize, m: usize, others: &[u8], j: usize
 }
 
 // Whether the `len` bytes of `a` from `from` on are the `n` bytes of `b` from `at` on: by length first.
-fn same_part(a: &[u8], from: usize, len: usize, b: &[u8], at: usize, n: usize) -> bool
+pub fn same_part(a: &[u8], from: usize, len: usize, b: &[u8], at: usize, n: usize) -> bool
     requires { ⌜ (from + len ≤ length (now a)) × (at + n ≤ length (now b)) ⌝ }
     ensures { λ r. ⌜ r ≡ sameBytes (take len (drop from (now (a .entry)))) (take n (drop at (now (b .entry)))) ⌝ }
 {

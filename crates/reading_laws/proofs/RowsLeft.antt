@@ -340,22 +340,22 @@ module _ (k : Kind) (n : ℕ) (b : List ℕ) (kind encoding width : ℕ) where
       }
   starts Dictionary w =
       let d = keys-sound k n b (w .rules) in
-      let s = d .key-runs in
+      let s = d .parts .key-runs in
       let r = first Dictionary in
       let part = keyPart (r .head .keys) b in
       let counts = countsPart (r .head .counts) part in
       let inside = entriesPart (r .head .keys) b in
       let f : 12 + r .head .keys + leastBytes k (r .head .entries) ≤ length b =
-      omega (arith, plain-least k (r .head .entries) inside (d .entries-inside), entries-long (r .head .keys) b, d .head-room) in
-      let u = runs-fit (plainNumber i32) n part (r .head) (λ m. 4 * m) i32-least (r .head .keys) (key-long (r .head .keys) b (d .head-room)) (s .either) in
+      omega (arith, plain-least k (r .head .entries) inside (d .parts .entries-inside), entries-long (r .head .keys) b, d .parts .head-room) in
+      let u = runs-fit (plainNumber i32) n part (r .head) (λ m. 4 * m) i32-least (r .head .keys) (key-long (r .head .keys) b (d .parts .head-room)) (s .either) in
       record {
-        head = simp (runs-start (r .head) (s .many), le-ltb MOST_ENTRIES (r .head .entries) (d .few));
+        head = simp (runs-start (r .head) (s .many), le-ltb MOST_ENTRIES (r .head .entries) (d .parts .few));
         parts = simp (le-ltb (length b) (12 + r .head .keys + leastBytes k (r .head .entries)) f, u);
         end = run-rows (r .head .runs) n counts (s .sum) .0;
         all = run-count (r .head .runs) n counts (s .sum);
         left = run-rows (r .head .runs) n counts (s .sum) .1;
         good = each-good (rowGood k Dictionary (r .rows) (r .head) b) (r .head .runs)
-            (λ i l. entry-good k (r .head .entries) inside (d .entries-inside) (slotAt (innerPart (r .head .counts) part) i)
+            (λ i l. entry-good k (r .head .entries) inside (d .parts .entries-inside) (slotAt (innerPart (r .head .counts) part) i)
             (rw zero-add at (known-at (r .head .entries) (innerPart (r .head .counts) part) (r .head .runs) 0 i (d .all-known) l)))
             (runNumbers (r .head .runs) 0 counts) (run-below (r .head .runs) n counts (s .sum));
       }

@@ -31,7 +31,7 @@ unfolding Varint.more Varint.countWithin Varint.in32Bits Varint.countOf Varint.c
     RunLength.asOften RunLength.runNumbers Stepping.leave Stepping.one Stepping.before Stepping.andThen Stepping.here Stepping.settle Stepping.next
     Stepping.stepsFrom Dictionary.indexOf Dictionary.withEntry Dictionary.entriesAfter Dictionary.entriesOf Dictionary.nullKey Dictionary.entryKey
     Dictionary.keyOf Dictionary.keyBlockOf Dictionary.dictionaryOf Dictionary.keyLength Dictionary.entriesIn Dictionary.keyPart Dictionary.entriesPart
-    Dictionary.slotAt Dictionary.known Dictionary.keysNumber Dictionary.dictionaryNumber Dictionary.entryRow Dictionary.entryGood Blocks.withEncoding
+    Dictionary.slotAt Dictionary.known Dictionary.keysNumber Dictionary.dictionaryRules Dictionary.dictionaryNumber Dictionary.entryRow Dictionary.entryGood Blocks.withEncoding
     Blocks.columnOf Blocks.blockOf Blocks.cut Blocks.filled Blocks.storedRow Blocks.storedForm Opening.rulesOf Opening.mostRows Opening.columnNumber
     Opening.openNumber Opening.headOf Opening.rowAt Opening.countsIn Opening.placesOf Opening.rowsOf Sizes.runRows Sizes.keysOf Sizes.plainSize
     Sizes.nullableSize Sizes.runLengthSize Sizes.estimateOf Sizes.nextSize Sizes.fullWith Sizes.plainFull Sizes.nullableFull

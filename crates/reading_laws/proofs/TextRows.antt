@@ -123,9 +123,9 @@ module _ (k : Kind) (h : holdsText k ≡ true) (n : ℕ) (b : List ℕ) where
       let inner = innerPart (d .counts) part in
       let entries = entriesPart (d .keys) b in
       each-place NullOrText (λ i. entryRow k (d .entries) entries (slotAt inner i)) (d .runs)
-      (λ i l. entry-text k h (d .entries) entries (s .entries-inside) (slotAt inner i)
+      (λ i l. entry-text k h (d .entries) entries (s .parts .entries-inside) (slotAt inner i)
       (rw zero-add at (known-at (d .entries) inner (d .runs) 0 i (s .all-known) l)))
-      (runNumbers (d .runs) 0 (countsPart (d .counts) part)) (run-below (d .runs) n (countsPart (d .counts) part) (s .key-runs .sum))
+      (runNumbers (d .runs) 0 (countsPart (d .counts) part)) (run-below (d .runs) n (countsPart (d .counts) part) (s .parts .key-runs .sum))
 
 -- ---- a sound block of char or string
 module _ (kind encoding width n : ℕ) (b : List ℕ) (k : Kind) (e : Encoding) (sound : openNumber kind encoding width n b ≡ 0)

@@ -7,17 +7,16 @@ use mathlib.Core.Logic.{inl, inr}
 use mathlib.Core.Path.{_≡_, refl, sym, ap, _∙_}
 use lib.ListN.{length, take, drop, length-drop}
 use lib.Seq.{length-take-le}
-use borrow.Author.Tests.{le-ltb}
 use Rattle.limits.specs.Limits.{MOST_ENTRIES}
 use Rattle.limits.specs.Refusals.{KEY}
 use Rattle.encode.specs.Bytes.{numberOf, high-first}
 use Rattle.encode.specs.declared.Kind.{Kind}
-use Rattle.plain.specs.Rules.{_if_, firstOf}
+use Rattle.plain.specs.Rules.{_if_}
 use Rattle.plain.specs.Plain.{places, plainNumber}
 use Rattle.rle.specs.RunLength.{runsIn, countsLength, innerPart, runLengthNumber}
 use Rattle.dict.specs.Dictionary.{i32, keyLength, entriesIn, keyPart, entriesPart, known, keysNumber, dictionaryNumber}
 use Rattle.dict.proofs.Parts.{length-key-part}
-use Rattle.format.proofs.Sound.{SoundRuns, dictionary-sound}
+use Rattle.format.proofs.Sound.{SoundRuns, rules-kept, dictionary-sound}
 use Rattle.soundness_laws.specs.Sound.{Items, RunsOver, Runs, Keys, KeysAndEntries}
 use Rattle.soundness_laws.proofs.Parts.{Laid, first-part, second-part, third-part, last-part, length-parts, in-parts}
 use Rattle.soundness_laws.proofs.Items.{items-open, opens-items}
@@ -60,14 +59,11 @@ module _ (entries n : ℕ) (b : List ℕ) where
 -- ---- the block
 module _ (k : Kind) (n : ℕ) (b : List ℕ) where
   -- the rules one by one, of what is read
-  rules-kept : (keys entries : ℕ) → keyLength b ≡ keys → entriesIn b ≡ entries → 12 + keys ≤ length b → entries ≤ MOST_ENTRIES
+  number-kept : (keys entries : ℕ) → keyLength b ≡ keys → entriesIn b ≡ entries → 12 + keys ≤ length b → entries ≤ MOST_ENTRIES
       → runLengthNumber (plainNumber i32) n (keyPart keys b) ≡ 0 → keysNumber entries (keyPart keys b) ≡ 0
       → plainNumber k entries (entriesPart keys b) ≡ 0 → dictionaryNumber k n b ≡ 0
-  unfolding dictionaryNumber firstOf
-  rules-kept keys entries e f room few runs known items =
-      let head : 12 ≤ length b = omega arith in
-      rw (e, f)
-      (simp (le-ltb (length b) 12 head, le-ltb MOST_ENTRIES entries few, le-ltb (length b) (12 + keys) room, runs, known, items))
+  unfolding dictionaryNumber
+  number-kept keys entries e f room few runs known items = rules-kept k n b _ keys entries e f room few runs (rw (e, f) known) items
 
   pub dictionary-opens : KeysAndEntries k n b → dictionaryNumber k n b ≡ 0
   unfolding keyLength entriesIn keyPart entriesPart
@@ -76,7 +72,7 @@ module _ (k : Kind) (n : ℕ) (b : List ℕ) where
       = record { whole = s .whole; first = s .keyField .0; second = s .entryField .0 } in
       let keys : keyPart (length (s .keyBlock)) b ≡ s .keyBlock = third-part laid in
       let items : entriesPart (length (s .keyBlock)) b ≡ s .entries = last-part laid in
-      rules-kept (length (s .keyBlock)) (s .entryCount .value)
+      number-kept (length (s .keyBlock)) (s .entryCount .value)
       (ap (numberOf high-first) (first-part laid) ∙ s .keyField .1 ∙ s .told)
       (ap (numberOf high-first) (second-part laid) ∙ s .entryField .1)
       (omega (arith, length-parts laid)) (s .few)
@@ -88,7 +84,7 @@ module _ (k : Kind) (n : ℕ) (b : List ℕ) where
   unfolding keyLength entriesIn keyPart entriesPart
   opens-dictionary z =
       let s = dictionary-sound k n b z in
-      let room = s .head-room in
+      let room = s .parts .head-room in
       let four : length (take 4 (drop 8 b)) ≡ 4 = length-take-le 4 (drop 8 b) (simp length-drop (omega arith)) in
       record {
         keyLength = record { value = keyLength b; bytes = take 8 b };
@@ -99,7 +95,7 @@ module _ (k : Kind) (n : ℕ) (b : List ℕ) where
         keyField = (length-take-le 8 b (omega arith), refl);
         entryField = (four, refl);
         told = sym (length-key-part (keyLength b) b room);
-        few = s .few;
-        keys = opens-keys (entriesIn b) n (keyPart (keyLength b) b) (s .key-runs) (s .all-known);
-        sound = opens-items k (entriesIn b) (entriesPart (keyLength b) b) (s .entries-inside);
+        few = s .parts .few;
+        keys = opens-keys (entriesIn b) n (keyPart (keyLength b) b) (s .parts .key-runs) (s .all-known);
+        sound = opens-items k (entriesIn b) (entriesPart (keyLength b) b) (s .parts .entries-inside);
       }

@@ -175,6 +175,16 @@ pub struct Compared {
     pub ranges: usize,
 }
 
+/// What salvaging a block answers: the bytes of the block that was written, and the ranges written.
+#[repr(C)]
+#[derive(Clone, Copy, Debug, PartialEq, Eq)]
+#[allow(missing_docs)]
+pub struct Salvaged {
+    pub number: u8,
+    pub len: usize,
+    pub ranges: usize,
+}
+
 /// The six areas of a builder: items (fixed and char items at their width, data of blob and string), their ends, flags (a bit an
 /// item), the runs' counts, the key runs' keys, the char items' lengths.
 #[derive(Debug)]
@@ -268,6 +278,17 @@ extern "C" {
         lasts: *mut usize,
         lasts_len: usize,
     ) -> Compared;
+    fn idz_salvage(
+        d: Descriptor,
+        block: *const u8,
+        block_len: usize,
+        firsts: *mut usize,
+        firsts_len: usize,
+        lasts: *mut usize,
+        lasts_len: usize,
+        out: *mut u8,
+        out_len: usize,
+    ) -> Salvaged;
 }
 
 /// Opens a block of `rows` rows.
@@ -433,6 +454,25 @@ pub fn compare(a: Descriptor, first: &[u8], b: Descriptor, second: &[u8], firsts
             firsts.len(),
             lasts.as_mut_ptr(),
             lasts.len(),
+        )
+    }
+}
+
+/// Gives back the rows of a dictionary block, those whose key names no entry as nulls: writes their block into the room, and the ranges of such
+/// rows, the first row of each to `firsts`, the last to `lasts`.
+pub fn salvage(d: Descriptor, block: &[u8], firsts: &mut [usize], lasts: &mut [usize], out: &mut [u8]) -> Salvaged {
+    // SAFETY: see the head of this file.
+    unsafe {
+        idz_salvage(
+            d,
+            block.as_ptr(),
+            block.len(),
+            firsts.as_mut_ptr(),
+            firsts.len(),
+            lasts.as_mut_ptr(),
+            lasts.len(),
+            out.as_mut_ptr(),
+            out.len(),
         )
     }
 }

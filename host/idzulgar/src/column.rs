@@ -1,4 +1,5 @@
 //! Kinds, encodings, and their pairs.
+use crate::calls::Descriptor;
 use crate::Refusal;
 
 /// What a column's rows are.
@@ -134,5 +135,11 @@ impl Column {
             Kind::F64 => (11, 0),
         };
         (kind, self.encoding as usize, width)
+    }
+
+    /// What a block of so many rows is opened by.
+    pub(crate) fn descriptor(self, rows: u64) -> Descriptor {
+        let (kind, encoding, width) = self.numbers();
+        Descriptor { kind, encoding, width, zero: 0, rows: usize::try_from(rows).unwrap_or(usize::MAX) }
     }
 }

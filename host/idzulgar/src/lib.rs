@@ -3,8 +3,9 @@
 //! The work is done by a static library whose every answer is proved: a row, or a refusal with its number. This crate adds what a
 //! Rust service expects around it: a [`Builder`] that keeps its memory and takes [equal rows by their number](Builder::append_times), a
 //! [`Reader`] that keeps its block, a [`Refusal`] that says what a number means, rows by batch or by iterator, a
-//! [count of the nulls](Reader::nulls) among them, a [`Sheet`] of many columns in one file, and the rows in which two columns differ
-//! ([`compare`]). No function here panics, whatever the block holds, and memory grows only as the caller asks.
+//! [count of the nulls](Reader::nulls) among them, a [`Sheet`] of many columns in one file, the rows in which two columns differ
+//! ([`compare`]), and what is left of a dictionary column whose keys were damaged ([`salvage`]). No function here panics, whatever the block
+//! holds, and memory grows only as the caller asks.
 //!
 //! ```
 //! use idzulgar::{Column, Encoding, Kind, Reader, Refusal, Value};
@@ -84,8 +85,10 @@ mod batch;
 mod builder;
 mod column;
 mod compare;
+mod ranges;
 mod reader;
 mod refusal;
+mod salvage;
 mod sheet;
 
 pub use batch::{Batch, Row, Value};
@@ -94,4 +97,5 @@ pub use column::{Column, Encoding, Kind};
 pub use compare::compare;
 pub use reader::{Reader, Rows};
 pub use refusal::Refusal;
+pub use salvage::{salvage, Salvaged};
 pub use sheet::{write_sheet, Sheet};

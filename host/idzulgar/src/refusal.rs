@@ -6,7 +6,7 @@ use std::fmt::{Display, Formatter};
 #[derive(Clone, Copy, Debug, PartialEq, Eq, Hash)]
 #[non_exhaustive]
 pub enum Refusal {
-    /// 1: kind, encoding or width is not one of the pairs.
+    /// 1: kind, encoding or width is not one of the pairs; of a block to be salvaged, the encoding is not dictionary.
     Column,
     /// 2: an appended item doesn't fit its kind: an integer outside it, a char row longer than the width, a char or string row that isn't
     /// text.

@@ -1,9 +1,9 @@
 //! What a builder sets aside for rows that are appended at once: what they need, never more than a block can have, and nothing for rows that
-//! it refuses.
+//! it refuses. And what salvaging sets aside.
 use std::alloc::{GlobalAlloc, Layout, System};
 use std::cell::Cell;
 
-use idzulgar::{Builder, Column, Encoding, Kind, Refusal, Row};
+use idzulgar::{salvage, Builder, Column, Encoding, Kind, Refusal, Row};
 
 thread_local! {
     /// The bytes that this thread asked for.
@@ -86,4 +86,30 @@ fn no_area_is_longer_than_a_block() {
     // twice as long as before would be 18 MB
     assert!(first.1 + second.1 <= (1 << 24) + 1_024, "{} and {} bytes", first.1, second.1);
     assert_eq!(append(&mut builder, Row::Bytes(&long), 1), (Err(Refusal::Limit), 0));
+}
+
+#[test]
+fn what_salvaging_needs() {
+    let column = Column::new(Kind::I64, Encoding::Dictionary);
+    let mut builder = created(Kind::I64, Encoding::Dictionary);
+    (0..100).for_each(|row| builder.append(Row::Int(row % 2)).expect("a row that fits"));
+    let mut block = builder.finish().expect("memory");
+    // the keys lie behind 20 bytes of lengths and 100 of counts
+    block[120 + 4 * 30] = 99;
+    let asked = |rows, block: &[u8], most| {
+        let before = ASKED.get();
+        let answer = salvage(column, rows, block, most).map(|salvaged| salvaged.lost);
+        (answer, ASKED.get() - before)
+    };
+    // room for the block, two slots for each range that is asked for, and the range that is given
+    let len = block.len();
+    let given = std::mem::size_of::<std::ops::RangeInclusive<u64>>();
+    assert_eq!(asked(100, &block, 1), (Ok(vec![30..=30]), len + 16 + given));
+    assert_eq!(asked(100, &block, 10), (Ok(vec![30..=30]), len + 160 + given));
+    assert_eq!(asked(100, &block, 0), (Err(Refusal::Room), len));
+    // but no more slots than a block of that length can have ranges, or any block
+    assert_eq!(asked(100, &block, usize::MAX), (Ok(vec![30..=30]), len + 16 * (len / 10) + given));
+    assert_eq!(asked(0, &vec![0; 1 << 24], usize::MAX), (Err(Refusal::Length), (1 << 24) + (16 << 19)));
+    // a block that is too long is refused, and needs no room of its length
+    assert_eq!(asked(0, &vec![0; 1 << 26], 0), (Err(Refusal::Limit), 1 << 24));
 }

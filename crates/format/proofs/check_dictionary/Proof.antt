@@ -6,21 +6,22 @@ use Rattle.format.proofs.check_dictionary.Statement.{statement}
 use Rattle.format.proofs.check_dictionary.Tie as tie
 
 returns : tie.Need-returns
-returns c = laws.too-short _ _ _ (c .if1 .taken)
+returns c = laws.too-short _ _ _ _ (c .if1 .taken)
 
 returns-2 : tie.Need-returns-2
-returns-2 c = laws.too-many _ _ _ (omega arith) (c .before .entries-in .ensures .0) (omega arith)
+returns-2 c = laws.too-many _ _ _ _ (omega arith) (c .before .entries-in .ensures .0) (omega arith)
 
 returns-3 : tie.Need-returns-3
 returns-3 c =
     let v = c .before .before in
-    laws.cut-short _ _ _ (omega arith) (v .before .entries-in .ensures .0) (omega arith) (c .before .key-len .ensures) (omega arith)
+    laws.cut-short _ _ _ _ (omega arith) (v .before .entries-in .ensures .0) (omega arith) (c .before .key-len .ensures) (omega arith)
 
 returns-4 : tie.Need-returns-4
 returns-4 c =
     let u = c .before .before .before .before in
     let v = u .before .before in
     laws.keys-wrong
+    _
     _
     _
     _
@@ -41,6 +42,7 @@ returns-5 c =
     _
     _
     _
+    _
     (omega arith)
     (v .before .entries-in .ensures .0)
     (omega arith)
@@ -57,6 +59,7 @@ returns-6 c =
     let u = f .before .before .before .before in
     let v = u .before .before in
     laws.entries-right
+    _
     _
     _
     _

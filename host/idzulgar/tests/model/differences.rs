@@ -47,14 +47,19 @@ fn are_same(one: Option<&Value>, other: Option<&Value>) -> bool {
     }
 }
 
-/// The ranges of rows that differ, each as long as it can be: its first row, and its last.
+/// The ranges of rows that are marked, each as long as it can be: its first row, and its last.
+pub fn marked_ranges(marks: &[bool]) -> Vec<(usize, usize)> {
+    let rows = marks.len();
+    // behind the last row none is marked
+    let firsts = (0..rows).filter(|row| marks[*row] && (*row == 0 || !marks[*row - 1]));
+    let lasts = (0..rows).filter(|row| marks[*row] && !marks.get(*row + 1).is_some_and(|next| *next));
+    firsts.zip(lasts).collect()
+}
+
+/// The ranges of rows that differ.
 pub fn ranges(one: &[Value], other: &[Value]) -> Vec<(usize, usize)> {
     let rows = one.len().max(other.len());
-    let differs: Vec<bool> = (0..rows).map(|row| !are_same(one.get(row), other.get(row))).collect();
-    // behind the last row none differs
-    let firsts = (0..rows).filter(|row| differs[*row] && (*row == 0 || !differs[*row - 1]));
-    let lasts = (0..rows).filter(|row| differs[*row] && !differs.get(*row + 1).is_some_and(|next| *next));
-    firsts.zip(lasts).collect()
+    marked_ranges(&(0..rows).map(|row| !are_same(one.get(row), other.get(row))).collect::<Vec<bool>>())
 }
 
 /// What comparing two blocks answers, with so many slots in both lists: the ranges, or its number.

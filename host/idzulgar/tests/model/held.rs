@@ -4,6 +4,7 @@ use idzulgar::Column;
 
 use super::differences::{self, Lent};
 use super::reads::{self, Areas};
+use super::salvages::{self, Salvaged};
 use super::sheets;
 
 /// Opens a block that is sound.
@@ -112,6 +113,44 @@ pub fn compare(one: &Lent, other: &Lent, firsts: usize, lasts: usize) -> Result<
         start_of(&one.block),
         other.descriptor,
         start_of(&other.block)
+    );
+    due
+}
+
+/// Room of so many bytes, and some more behind those that are lent.
+fn room(lent: usize) -> Vec<u8> {
+    (0..lent + 3).map(|place| 0xA5 ^ place as u8).collect()
+}
+
+/// Salvages a block with so many slots in both lists and so many bytes of room: the block and the ranges, or the number. Every slot that isn't
+/// a range's and every byte behind the block has to stay.
+pub fn given_back(lent: &Lent, firsts: usize, lasts: usize, out: usize) -> Result<Salvaged, u8> {
+    let before = [slots(firsts, usize::MAX), slots(lasts, usize::MAX >> 1)];
+    let [mut first_rows, mut last_rows] = before.clone();
+    let (mut bytes, bytes_before) = (room(out), room(out));
+    let answer =
+        calls::salvage(lent.descriptor, &lent.block, &mut first_rows[..firsts], &mut last_rows[..lasts], &mut bytes[..out]);
+    let what = || format!("{answer:?}, {firsts} and {lasts} slots, room {out}: {:?} {}", lent.descriptor, start_of(&lent.block));
+    assert!(answer.number == 0 || answer.ranges == 0 && answer.len == 0, "{}", what());
+    for (after, before) in [&first_rows, &last_rows].into_iter().zip(&before) {
+        assert!(after[answer.ranges..] == before[answer.ranges..], "{}", what());
+    }
+    assert!(bytes[answer.len..] == bytes_before[answer.len..], "{}", what());
+    if answer.number != 0 {
+        return Err(answer.number);
+    }
+    bytes.truncate(answer.len);
+    Ok(Salvaged { block: bytes, ranges: first_rows.into_iter().zip(last_rows).take(answer.ranges).collect() })
+}
+
+/// The same, held to the model.
+pub fn salvage(lent: &Lent, firsts: usize, lasts: usize, out: usize) -> Result<Salvaged, u8> {
+    let (found, due) = (given_back(lent, firsts, lasts, out), salvages::salvaged(lent, firsts, lasts, out));
+    assert!(
+        found == due,
+        "{found:02X?}, not {due:02X?}, by {firsts} and {lasts} slots and {out} bytes: {:?} {}",
+        lent.descriptor,
+        start_of(&lent.block)
     );
     due
 }

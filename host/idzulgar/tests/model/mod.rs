@@ -1,6 +1,6 @@
 //! A reading of documents 01 and 02 in plain Rust, for the tests: the block of a list of rows, opening's number, the rows of a sound
-//! block, a read's answer on any record and any bytes, sheet files, and the rows in which two blocks differ. It is written from the documents'
-//! words, takes no care for speed, and shares no code with the library.
+//! block, a read's answer on any record and any bytes, sheet files, the rows in which two blocks differ, and what is given back of a dictionary
+//! block with unknown keys. It is written from the documents' words, takes no care for speed, and shares no code with the library.
 #![allow(dead_code)]
 
 pub mod differences;
@@ -8,6 +8,7 @@ pub mod held;
 pub mod loose;
 pub mod memory;
 pub mod reads;
+pub mod salvages;
 pub mod sheets;
 
 use idzulgar::{Column, Encoding, Kind, Value};
@@ -316,7 +317,24 @@ fn runs_of(b: &[u8]) -> (Vec<u64>, &[u8]) {
     (all, rest)
 }
 
-fn dictionary_number(kind: Kind, n: u64, b: &[u8]) -> u8 {
+/// Whether a key is neither null's nor an entry's.
+fn is_unknown(key: i32, entries: u64) -> bool {
+    key != -2147483648 && key as i64 + 2147483647 >= entries as i64
+}
+
+/// The keys of a sound run-length block of them, one a run.
+fn keys_of(keys: &[u8]) -> Vec<i32> {
+    runs_of(keys).1.chunks(4).map(|key| i32::from_le_bytes(key.try_into().unwrap())).collect()
+}
+
+/// What the rules on keys give: 15, or 0 if they are taken for good.
+#[derive(Clone, Copy, PartialEq)]
+enum Keys {
+    Asked,
+    TakenForGood,
+}
+
+fn dictionary_number(kind: Kind, n: u64, b: &[u8], rule: Keys) -> u8 {
     if b.len() < 12 {
         return 10;
     }
@@ -331,11 +349,8 @@ fn dictionary_number(kind: Kind, n: u64, b: &[u8]) -> u8 {
     if number != 0 {
         return number;
     }
-    for key in runs_of(keys).1.chunks(4) {
-        let key = i32::from_le_bytes(key.try_into().unwrap()) as i64;
-        if key != -2147483648 && key + 2147483647 >= entries as i64 {
-            return 15;
-        }
+    if rule == Keys::Asked && keys_of(keys).iter().any(|key| is_unknown(*key, entries)) {
+        return 15;
     }
     plain_number(kind, entries, rest)
 }
@@ -358,7 +373,7 @@ pub fn open_number(column: Column, n: u64, b: &[u8]) -> u8 {
         Encoding::Nullable => nullable_number(kind, n, b),
         Encoding::RunLength => run_length_number(n, b, |runs, inner| plain_number(kind, runs, inner)),
         Encoding::RunLengthNullable => run_length_number(n, b, |runs, inner| nullable_number(kind, runs, inner)),
-        Encoding::Dictionary => dictionary_number(kind, n, b),
+        Encoding::Dictionary => dictionary_number(kind, n, b, Keys::Asked),
     }
 }
 

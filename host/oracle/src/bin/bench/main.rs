@@ -3,7 +3,7 @@
 //!     bench [PART]                  times: nanoseconds a row, best of several rounds, and ratios
 //!     bench instructions [PART]     instructions a row by the script `count`, whatever else the machine does
 //!
-//! A part is reading, building, copies, runs, texts, sheets or compare; without one, all are run.
+//! A part is reading, building, copies, runs, texts, sheets, compare or salvage; without one, all are run.
 use std::hint::black_box;
 use std::process::Command;
 use std::time::Instant;
@@ -16,6 +16,7 @@ mod compare;
 mod copies;
 mod reading;
 mod runs;
+mod salvage;
 mod sheets;
 mod texts;
 
@@ -86,6 +87,7 @@ fn main() {
             texts::times();
             sheets::times();
             compare::times();
+            salvage::times();
         }
         ["reading"] => reading::times(),
         ["building"] => building::times(),
@@ -94,6 +96,7 @@ fn main() {
         ["texts"] => texts::times(),
         ["sheets"] => sheets::times(),
         ["compare"] => compare::times(),
+        ["salvage"] => salvage::times(),
         ["instructions"] => {
             reading::instructions();
             building::instructions();
@@ -102,6 +105,7 @@ fn main() {
             texts::instructions();
             sheets::instructions();
             compare::instructions();
+            salvage::instructions();
         }
         ["instructions", "reading"] => reading::instructions(),
         ["instructions", "building"] => building::instructions(),
@@ -110,6 +114,7 @@ fn main() {
         ["instructions", "texts"] => texts::instructions(),
         ["instructions", "sheets"] => sheets::instructions(),
         ["instructions", "compare"] => compare::instructions(),
+        ["instructions", "salvage"] => salvage::instructions(),
         ["count", "reading", ref words @ ..] => reading::count(words),
         ["count", "building", ref words @ ..] => building::count(words),
         ["count", "copies", ref words @ ..] => copies::count(words),
@@ -117,6 +122,7 @@ fn main() {
         ["count", "texts", ref words @ ..] => texts::count(words),
         ["count", "sheets", ref words @ ..] => sheets::count(words),
         ["count", "compare", ref words @ ..] => compare::count(words),
-        _ => panic!("bench [instructions] [reading|building|copies|runs|texts|sheets|compare]"),
+        ["count", "salvage", ref words @ ..] => salvage::count(words),
+        _ => panic!("bench [instructions] [reading|building|copies|runs|texts|sheets|compare|salvage]"),
     }
 }

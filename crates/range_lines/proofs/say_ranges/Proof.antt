@@ -1,8 +1,8 @@
 -- `say_ranges` is safe and ends: the loop's measure is the ranges left to print. Assumes nothing.
 use borrow.Author.Needs.{needs}
 use Prim.Native.Nat.{_≤_, _-_}
-use Rattle.compare_by.proofs.say_ranges.Statement.{statement}
-use Rattle.compare_by.proofs.say_ranges.Tie as tie
+use Rattle.range_lines.proofs.say_ranges.Statement.{statement}
+use Rattle.range_lines.proofs.say_ranges.Tie as tie
 
 abbrev Inv-loop : tie.InvT-loop
 Inv-loop n firsts lasts i₀ t5 i = i ≤ n

@@ -1,0 +1,4 @@
+pub mod ButKeys
+pub mod HeadNumbers
+pub mod Taking
+pub mod TakenBlocks

@@ -1,0 +1,4 @@
+pub mod Going
+pub mod Laying
+pub mod New
+pub mod Plain

@@ -1,0 +1,9 @@
+pub mod Spellings
+pub mod Merging
+pub mod ShownRuns
+pub mod FewerEntries
+pub mod KeyRuns
+pub mod SoundItems
+pub mod PlainEntries
+pub mod Lengths
+pub mod Repaired

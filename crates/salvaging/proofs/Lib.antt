@@ -1,0 +1,3 @@
+pub mod Outcomes
+pub mod TakenParts
+pub mod MendedSizes
