@@ -45,7 +45,7 @@ enum {
     IDZ_VARINT = 12,     /* a run count is cut, too large or longer than needed */
     IDZ_COUNTS = 13,     /* a run count is 0, or the counts don't fill their section */
     IDZ_ENDS = 14,       /* the end of a blob or string falls or passes the data */
-    IDZ_KEY = 15,        /* a dictionary key names no entry */
+    IDZ_KEY = 15,        /* a dictionary key names no entry; idz_salvage gives the other rows back */
     IDZ_SUM = 16,        /* the run counts don't add up to the rows */
     IDZ_TEXT = 17,       /* a stored char or string item isn't text (opening) */
     IDZ_NO_COLUMN = 20,  /* the sheet file has no such column */

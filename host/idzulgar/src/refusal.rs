@@ -31,7 +31,7 @@ pub enum Refusal {
     Counts,
     /// 14: the end of a blob or string falls or passes the data.
     Ends,
-    /// 15: a dictionary key names no entry.
+    /// 15: a dictionary key names no entry; [`salvage`](crate::salvage) gives the other rows back.
     Key,
     /// 16: the run counts don't add up to the rows.
     Sum,

@@ -271,7 +271,7 @@ fn room_and_lists_of_each_length() {
     }
 }
 
-/// A change of a block, of its descriptor or of what is lent: what it is, its number, and how it is done.
+/// What can be wrong with a block or its descriptor: what it is, its number, and how it is done.
 type Fault = (&'static str, u8, fn(&mut Lent));
 
 /// A column of strings, six rows in four runs, of which one key is unknown, and what can be wrong with it beside that, in the order in which it

@@ -183,10 +183,9 @@ pub fn instructions() {
         let words = [rows, runs, entries].map(|number| number.to_string());
         SIDES.map(|side| counted("salvage", &[name, side, &words[0], &words[1], &words[2]]))
     };
-    // what takes minutes to count is left to the times: a million runs, and 65,536 entries of char and blob
+    // a million runs and 65,536 entries take many minutes to count, and are left to the times
     table("instructions", &KINDS, &many_runs()[..3], of);
     table("instructions", &KINDS, &many_entries()[..2], of);
-    table("instructions", &KINDS[..2], &many_entries()[2..], of);
     table("instructions", &KINDS[1..2], &many_rows(), of);
 }
 
