@@ -1,4 +1,6 @@
 // Where the parts of a block lie by the numbers at its head, and whether these numbers contradict the block's length and rows.
+#![tactic(auto)]
+
 ghost use Rattle.std.specs.Prelude.{◌≡◌, false, ◌+◌, ◌*◌, ◌≤◌};
 ghost use Rattle.limits.specs.Limits.{MOST_ITEMS, MOST_BYTES};
 ghost use Rattle.plain.specs.Plain.{least_bytes};
@@ -12,14 +14,14 @@ use format::{Encoding, Head};
 use source::{Marks, Source};
 
 // A part of a block.
-#[derive(Drop)]
+#[derive(Clone, Copy)]
 pub struct Part {
     pub from: usize,
     pub to: usize,
 }
 
 // The parts of a block, and how they are read.
-#[derive(Drop)]
+#[derive(Clone, Copy)]
 pub struct Parts {
     pub source: Source,
     pub counts: Part,

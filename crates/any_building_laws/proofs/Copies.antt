@@ -14,7 +14,7 @@ use Rattle.needs.specs.declared.Counted.{Counted}
 use Rattle.needs.specs.Needs.{too_short}
 use Rattle.step.specs.Counting.{next_of}
 use Rattle.append.specs.Appending.{Lent, room_of, added_to, added_with}
-use Rattle.copies.specs.Copies.{Stage, stage, one_more_lem, times_more, times, added_times_by, added_times}
+use Rattle.copies.specs.Copies.{Stage, stage, one_more, times_more, times, added_times_by, added_times}
 use Rattle.builder.specs.declared.Builder.{Builder}
 use Rattle.builder.specs.Building.{counting, append_with, appended_times_in, appended_times}
 use Rattle.building_laws.specs.Built.{Given, row_in, Enough}
@@ -46,7 +46,7 @@ module _ (k : Kind) (e : Encoding) (x : Row) (P : List Row → Stage → Type 0)
       (behind-itself n ys (next_stage k e ys x s) (one_more_lem ys s h))
 
   n-times : (n : ℕ) (rows : List Row) (r : Counted) (a : Lent) → P rows (stage r a) → P (rows ++ replicate n x) (copies_by k e rows n x r a)
-  unfolding times one_more_lem
+  unfolding times one_more
   n-times zero rows r a h = subst (λ (l : List Row). P l (stage r a)) (sym (append-nil rows)) h
   n-times (suc n) rows r a h =
       subst (λ (l : List Row). P l (copies_by k e rows (suc n) x r a)) (append_assoc rows (x ∷ []) (replicate n x))

@@ -24,7 +24,7 @@ use Rattle.needs.proofs.Encodings.{keyed-coded}
 use Rattle.step.specs.Steps.{run_open}
 use Rattle.step.specs.Counting.{grown}
 use Rattle.append.specs.Appending.{Lent, room_of}
-use Rattle.copies.specs.Copies.{stage, one_more_lem, joins_again, stores_again, times}
+use Rattle.copies.specs.Copies.{stage, one_more, joins_again, stores_again, times}
 use Rattle.copies.specs.Stretch.{grown_again, grown_times}
 use Rattle.copies.proofs.Stretches.{counted-more}
 use Rattle.building_laws.specs.Built.{stored_rows, stored_runs, Enough}
@@ -129,8 +129,8 @@ module _ (k : Kind) (e : Encoding) (x : Row) (item joins : Bool) (key : ℤ) (c 
   first = grown e c (presence x) (length (item_of k x)) item joins
 
   then-again : (n : ℕ) → after (suc n) ≡ grown_times e (presence x) (length (item_of k x)) n first
-  unfolding times one_more_lem
-  then-again n = counted-more k e x key n (one_more_lem k e x item joins key (stage c a))
+  unfolding times one_more
+  then-again n = counted-more k e x key n (one_more k e x item joins key (stage c a))
 
   runs-most : coded e ≡ true → (n : ℕ) → (after n).runs ≤ c.runs + runs_more n
   unfolding times

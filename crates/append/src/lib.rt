@@ -1,4 +1,6 @@
 // What an append answers and writes, over what is counted and the six lent areas.
+#![tactic(auto)]
+
 ghost use Rattle.std.specs.Prelude.{◌≡◌, true, cond, ◌&&◌, ◌+◌, length};
 ghost use Rattle.area.specs.Area.{over};
 ghost use Rattle.plain.specs.Rows.{row_of, bytes_in};

@@ -1,4 +1,6 @@
 // One row appended n times to a block of any encoding, over what is counted and the six lent areas: the encoding is asked for once.
+#![tactic(auto)]
+
 ghost use Rattle.std.specs.Prelude.{◌≡◌};
 ghost use Rattle.plain.specs.Rows.{row_of};
 ghost use Rattle.append.specs.Appending.{lent, added_to};

@@ -1,6 +1,8 @@
 // An append to rows, of which each is a stored item, over what is counted and the six lent areas; it asks for no encoding and tests the few numbers
 // that it has. A single row has a way of its own, as most rows come one by one. The other way is told of copies: what a function is lent
 // lies in memory, and the single row's numbers would lie there too.
+#![tactic(auto)]
+
 ghost use Rattle.std.specs.Prelude.{◌≡◌, true, false, pos, length};
 ghost use Rattle.plain.specs.Rows.{row_of};
 ghost use Rattle.plain.specs.Plain.{item_of};

@@ -1,4 +1,6 @@
 // An append to keys, over what is counted and the six lent areas, in the parts that `append_items` has for rows.
+#![tactic(auto)]
+
 ghost use Rattle.std.specs.Prelude.{◌≡◌, length};
 ghost use Rattle.plain.specs.Rows.{row_of};
 ghost use Rattle.plain.specs.Plain.{item_of};

@@ -1,4 +1,6 @@
 // A row that is found, appended n times, over what is counted and the six lent areas: all n rows or none.
+#![tactic(auto)]
+
 ghost use Rattle.std.specs.Prelude.{◌≡◌, true, false, cond, not, ◌-◌, ◌<◌, length};
 ghost use Rattle.limits.specs.Limits.{MOST_COUNT};
 ghost use Rattle.plain.specs.Rows.{row_of};

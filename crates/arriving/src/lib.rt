@@ -1,4 +1,6 @@
 // What a check of a block that arrives in pieces waits for.
+#![tactic(auto)]
+
 ghost use Rattle.std.specs.Prelude.{◌≡◌, not, ◌*◌, ◌≤◌, eqb};
 ghost use Rattle.limits.specs.Limits.{MOST_ITEMS, MOST_ENTRIES};
 ghost use Rattle.limits.specs.Refusals.{LENGTH};
@@ -11,7 +13,7 @@ use format::Encoding;
 use limits::refusal;
 
 // The stage that it is in. Bytes of an unfinished field stand beside it.
-#[derive(Drop)]
+#[derive(Clone, Copy)]
 pub enum Stage {
     // the verdict is known, and what comes is counted alone
     Done(u8),

@@ -1,4 +1,6 @@
 // Blocks of every kind and encoding: a reader by value, and its calls.
+#![tactic(auto)]
+
 mod reading;
 
 ghost use Rattle.std.specs.Prelude.{◌≡◌};
@@ -11,7 +13,7 @@ use rle::Spot;
 // A reader: what opening was given and found at the block's head, where reading stands, and how many of the rows given were null. Any
 // numbers can stand here.
 #[repr(C)]
-#[derive(Drop)]
+#[derive(Clone, Copy)]
 pub struct Reader {
     pub kind: usize,
     pub encoding: usize,
@@ -25,7 +27,7 @@ pub struct Reader {
 }
 
 // What opening answers: a refused block has no reader.
-#[derive(Drop)]
+#[derive(Clone, Copy)]
 pub enum Opened {
     Open(Reader),
     Refused(u8),
@@ -33,7 +35,7 @@ pub enum Opened {
 
 // The same as a number and a record, for callers who take no enum: 0 and a reader, or a refusal and a record that names no column.
 #[repr(C)]
-#[derive(Drop)]
+#[derive(Clone, Copy)]
 pub struct Opening {
     pub number: u8,
     pub reader: Reader,
@@ -41,7 +43,7 @@ pub struct Opening {
 
 // What a read answers: the rows given and, for char, blob and string, the bytes written; or a refusal with the reader as it was.
 #[repr(C)]
-#[derive(Drop)]
+#[derive(Clone, Copy)]
 pub struct Given {
     pub number: u8,
     pub rows: usize,
@@ -51,7 +53,7 @@ pub struct Given {
 
 // What asking for the remaining rows answers: the reader comes back as it was.
 #[repr(C)]
-#[derive(Drop)]
+#[derive(Clone, Copy)]
 pub struct Left {
     pub number: u8,
     pub rows: usize,

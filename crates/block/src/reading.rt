@@ -88,7 +88,7 @@ fn nothing_asked(skip: usize, size: usize) -> bool
 }
 
 // What the tests before any field come to: the kind and the encoding, or the number of a refusal.
-#[derive(Drop)]
+#[derive(Clone, Copy)]
 enum Tested {
     Fine { kind: Kind, encoding: Encoding },
     Refused(u8),

@@ -10,7 +10,7 @@ use Rattle.encode.specs.declared.Kind.TheVariants.{Fixed, Char, Blob}
 use Rattle.limits.specs.Limits.{MOST_ITEMS}
 use Rattle.plain.specs.Each.{Each}
 use Rattle.plain.specs.Rows.{Row, null}
-use Rattle.plain.specs.Plain.{joined, ends_from, plain_of, plain_number, plain_row_lem}
+use Rattle.plain.specs.Plain.{joined, ends_from, plain_of, plain_number, plain_row}
 use Rattle.nullable.specs.Nullable.{bitmap_length, nullable_of, nullable_number, nullable_row}
 use Rattle.nullable.proofs.Parts.{length-block}
 use Rattle.rle.specs.RunLength.{runs_of, run_length_of}
@@ -55,7 +55,7 @@ module _ (k : Kind) (rows : List Row) (f : Each (Fits k) rows) where
 
     plain-holds : rows_of k Plain (length rows) (block_of k Plain rows) ≡ stored_form k Plain rows
     unfolding rows_of row_at places_of stored_form stored_row block_of
-    plain-holds = over-list (plain_row_lem k (length rows) (plain_of k rows)) (kept k) rows null (plain_row_lem k rows f plain-small)
+    plain-holds = over-list (plain_row k (length rows) (plain_of k rows)) (kept k) rows null (plain_row_lem k rows f plain-small)
 
   module _ (l : Limits k Nullable rows) where
     few-rows : length rows ≤ MOST_ITEMS
@@ -99,7 +99,7 @@ module _ (k : Kind) (rows : List Row) (f : Each (Fits k) rows) where
     run-length-holds : rows_of k RunLength (length rows) (block_of k RunLength rows) ≡ stored_form k RunLength rows
     unfolding rows_of row_at places_of counts_in head_of stored_form stored_row block_of
     run-length-holds =
-        run-length-rows (plain_of k) (plain_row_lem k) (kept k) rows few-runs runs-small (plain_row_lem k (run_rows rows) run-items run-items-small)
+        run-length-rows (plain_of k) (plain_row k) (kept k) rows few-runs runs-small (plain_row_lem k (run_rows rows) run-items run-items-small)
 
   module _ (l : Limits k RunLengthNullable rows) where
     few-nullable-runs : length (runs_of rows) ≤ MOST_ITEMS

@@ -9,7 +9,7 @@ use Rattle.encode.specs.declared.Kind.{Kind}
 use Rattle.limits.specs.Limits.{MOST_ENTRIES, MOST_ITEMS}
 use Rattle.plain.specs.Each.{Each}
 use Rattle.plain.specs.Rows.{Row, null, int, bytes, int_in}
-use Rattle.plain.specs.Plain.{joined, plain_of, plain_number, plain_row_lem}
+use Rattle.plain.specs.Plain.{joined, plain_of, plain_number, plain_row}
 use Rattle.plain.proofs.Each.{each_more}
 use Rattle.nullable.specs.Nullable.{presence}
 use Rattle.rle.specs.RunLength.{runs_of, run_length_of, runs_in, counts_length, counts_part, inner_part, run_length_number, run_numbers}
@@ -74,7 +74,7 @@ module _ (k : Kind) (rows : List Row) (f : Each (Fits k) rows) (few : length (ru
   item-slot :
       (i : ℕ) → i < length (run_rows (keys_of rows))
       → slot_at (plain_of i32 (run_rows (keys_of rows))) i ≡ slot_of (get_or (run_rows (keys_of rows)) i null)
-  unfolding slot_at plain_row_lem int_in cut filled
+  unfolding slot_at plain_row int_in cut filled
   item-slot i h = ap slot_of (plain_row_lem i32 (run_rows (keys_of rows)) items-fit items-small i h)
 
   -- ---- the rules
@@ -117,7 +117,7 @@ module _ (k : Kind) (rows : List Row) (f : Each (Fits k) rows) (few : length (ru
       (rw (entries-part-of-block k rows) (plain-opens k es entries_fit entries-small))
 
   -- ---- the rows
-  entry_kept : (r : Row) (e : index_of r es < length es) → plain_row_lem k (length es) (plain_of k es) (index_of r es) ≡ kept k r
+  entry_kept : (r : Row) (e : index_of r es < length es) → plain_row k (length es) (plain_of k es) (index_of r es) ≡ kept k r
   entry_kept r e = plain_row_lem k es entries_fit entries-small (index_of r es) e ∙ ap (kept k) (index-row r es e)
 
   row_back : (r : Row) → Fits k r → Entered es r → entry_row k (length es) (plain_of k es) (slot_of (key_of es r)) ≡ cut k r

@@ -12,7 +12,7 @@ use borrow.Author.Tests.{ltb-false}
 use Rattle.encode.specs.declared.Kind.{Kind}
 use Rattle.encode.specs.declared.Kind.TheVariants.{Fixed, Char, Blob}
 use Rattle.plain.specs.Rows.{Row, null}
-use Rattle.plain.specs.Plain.{plain_row_lem}
+use Rattle.plain.specs.Plain.{plain_row}
 use Rattle.rle.specs.Stepping.{spot}
 use Rattle.rle.proofs.Steps.{steps-length}
 use Rattle.rle.proofs.Whole.{whole-steps}
@@ -36,8 +36,8 @@ any-default (x ∷ l) (suc i) d d' h = any-default l i d d' (omega arith)
 never : {A : Type 0} → ◌≡◌ {A = ℕ} 0 1 → A
 never z = absurd (omega arith)
 
-plain-there : (k : Kind) (n : ℕ) (b : List ℕ) (i : ℕ) → plain_row_lem k n b i ≡ null → ⊥
-unfolding plain_row_lem
+plain-there : (k : Kind) (n : ℕ) (b : List ℕ) (i : ℕ) → plain_row k n b i ≡ null → ⊥
+unfolding plain_row
 plain-there (Fixed p) n b i e = never cc
 plain-there (Char w) n b i e = never cc
 plain-there (Blob text) n b i e = never cc

@@ -23,7 +23,7 @@ use Rattle.utf8.proofs.Cutting.{no_text}
 use Rattle.plain.specs.Each.{Each}
 use Rattle.plain.specs.Rows.{Row, null, int, bytes, int_in, bytes_in, fits}
 use Rattle.plain.specs.Plain.{joined, places, item_of, ends_from, plain_of, end_at, start_at, ends_of, rising, last_of, lengths_number, plain_number, before_nul}
-use Rattle.plain.specs.Plain.{fixed_at, char_at, blob_at, plain_row_lem}
+use Rattle.plain.specs.Plain.{fixed_at, char_at, blob_at, plain_row}
 use Rattle.plain.proofs.Each.{Wide, all-each, length-joined, fixed-wide, char-wide}
 use Rattle.plain.proofs.Ends.{length-ends, last-same}
 use Rattle.plain.proofs.Numbers.{fixed-length, char-length, all-text}
@@ -225,8 +225,8 @@ char-item w rows f i h =
 -- item i of the block is what is kept of row i
 pub plain_row_lem :
     (k : Kind) (rows : List Row) → Each (Fits k) rows → length (plain_of k rows) < 2 ^ 32
-    → (i : ℕ) → i < length rows → plain_row_lem k (length rows) (plain_of k rows) i ≡ kept k (get_or rows i null)
-unfolding plain_row_lem cut filled
+    → (i : ℕ) → i < length rows → plain_row k (length rows) (plain_of k rows) i ≡ kept k (get_or rows i null)
+unfolding plain_row cut filled
 plain_row_lem (Fixed p) rows f s i h = ap int (fixed-item p rows f i h)
 plain_row_lem (Char w) rows f s i h = ap bytes (char-item w rows f i h)
 plain_row_lem (Blob text) rows f s i h = ap bytes (blob-items text rows s i h)

@@ -4,7 +4,7 @@ use script::{first, number, past, rest, say, show_byte, show_size};
 use trial::{Rows, Turn};
 
 // What a command gives: rows; whether their bytes come from the room, or where in the input they stand; the place after it.
-#[derive(Drop)]
+#[derive(Clone, Copy)]
 struct Given {
     rows: Rows,
     room: bool,

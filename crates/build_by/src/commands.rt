@@ -90,7 +90,7 @@ fn created(answer: Created) -> Builder {
 }
 
 // What a creation is given: the numbers of a column, the target, and the place after them.
-#[derive(Drop)]
+#[derive(Clone, Copy)]
 struct Wanted {
     kind: usize,
     encoding: usize,

@@ -1,4 +1,6 @@
 // The commands on a builder and on rows, as `try_building` tells them.
+#![tactic(auto)]
+
 mod appending;
 mod commands;
 
@@ -6,7 +8,7 @@ pub use appending::append;
 pub use commands::{begin, start};
 
 // What stands between two commands: the place in the input, what is shown, what is lent, the record, the number of the last append.
-#[derive(Drop)]
+#[derive(Clone, Copy)]
 pub struct State {
     pub at: usize,
     pub view: usize,

@@ -1,4 +1,6 @@
 // Builders of blocks of every kind and encoding, by value, over lent areas.
+#![tactic(auto)]
+
 mod appending;
 mod finishing;
 mod sizing;
@@ -11,7 +13,7 @@ use needs::Counted;
 
 // A builder: what creation was given, and what was appended so far. Any numbers can stand here.
 #[repr(C)]
-#[derive(Drop)]
+#[derive(Clone, Copy)]
 pub struct Builder {
     pub kind: usize,
     pub encoding: usize,
@@ -22,7 +24,7 @@ pub struct Builder {
 }
 
 // What creation answers: a refused column has no builder.
-#[derive(Drop)]
+#[derive(Clone, Copy)]
 pub enum Created {
     New(Builder),
     Refused(u8),
@@ -30,7 +32,7 @@ pub enum Created {
 
 // What an append answers: 0 and the next builder, or a refusal with the builder as it was.
 #[repr(C)]
-#[derive(Drop)]
+#[derive(Clone, Copy)]
 pub struct Appended {
     pub number: u8,
     pub builder: Builder,
@@ -38,7 +40,7 @@ pub struct Appended {
 
 // What finishing answers: the bytes written, and the builder as it was.
 #[repr(C)]
-#[derive(Drop)]
+#[derive(Clone, Copy)]
 pub struct Finished {
     pub number: u8,
     pub len: usize,
@@ -47,7 +49,7 @@ pub struct Finished {
 
 // What asking for the estimated size answers, and what asking whether to finish answers: the builder comes back as it was.
 #[repr(C)]
-#[derive(Drop)]
+#[derive(Clone, Copy)]
 pub struct Estimated {
     pub number: u8,
     pub size: usize,
@@ -55,7 +57,7 @@ pub struct Estimated {
 }
 
 #[repr(C)]
-#[derive(Drop)]
+#[derive(Clone, Copy)]
 pub struct Asked {
     pub number: u8,
     pub full: bool,

@@ -23,7 +23,7 @@ use Rattle.plain.proofs.Each.{char-short}
 use Rattle.nullable.specs.Nullable.{presence}
 use Rattle.dict.specs.Dictionary.{index_of}
 use Rattle.lookup.specs.declared.Looked.TheVariants.{Entry}
-use Rattle.lookup.specs.Held.{Held, item_start, held_row, field_wrong, look_from, look_up_lem}
+use Rattle.lookup.specs.Held.{Held, item_start, held_row, field_wrong, look_from, look_up}
 use Rattle.building_laws.proofs.Lists.{each_first, each-second, length-snoc, joined-append, length-joined-snoc}
 use Rattle.building_laws.proofs.Same.{never}
 use Rattle.building_laws.proofs.Measures.{fixed-items, char-items}
@@ -214,6 +214,6 @@ module _ (k : Kind) (h : Held) (row : Row) where
       go true ih = rw add-zero
       go false ih = let m : suc (length xs) + index_of row ys ≡ length xs + suc (index_of row ys) = omega arith in ih ∙ ap Entry m
 
-  pub look_up_lem : (s : List Row) → Stored k s h → Each (λ x. presence x ≡ 1) s → look_up_lem k (length s) (length (joined (item_of k) s)) h row ≡ Entry (index_of row s)
-  unfolding look_up_lem
+  pub look_up_lem : (s : List Row) → Stored k s h → Each (λ x. presence x ≡ 1) s → look_up k (length s) (length (joined (item_of k) s)) h row ≡ Entry (index_of row s)
+  unfolding look_up
   look_up_lem s g p = rw zero-add at (look-from [] s g p)

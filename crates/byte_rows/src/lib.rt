@@ -1,5 +1,7 @@
 // The second pass over the rows of char, blob and string: their flags, their ends and their bytes, run by run. The first pass has found them
 // there and good.
+#![tactic(auto)]
+
 ghost use Rattle.std.specs.Prelude.{Bool, ◌≡◌, map, ◌+◌, ◌*◌, ◌<◌, ◌≤◌, ◌^◌, length, take, drop};
 ghost use Rattle.std.proofs.lemmas.List.Edits.{sets};
 ghost use Rattle.limits.specs.Limits.{MOST_BYTES};

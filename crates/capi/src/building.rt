@@ -9,7 +9,7 @@ use builder::{Appended, Asked, Builder, Created, Estimated, Finished};
 
 // What creation answers: 0 and a builder, or a refusal and the record that every call refuses.
 #[repr(C)]
-#[derive(Drop)]
+#[derive(Clone, Copy)]
 pub struct Creation {
     pub number: u8,
     pub builder: Builder,

@@ -1,5 +1,7 @@
 // The calls for C and Rust, by the names that include/idzulgar.h declares: numbers, slices and records of numbers go in and
 // come out, and each answer is the one of the crates below.
+#![tactic(auto)]
+
 mod building;
 mod pairs;
 mod rows;

@@ -1,4 +1,6 @@
 // Areas that are lent in part, and their cells: set to numbers, shown, summed.
+#![tactic(auto)]
+
 mod lending;
 mod setting;
 mod showing;
@@ -10,7 +12,7 @@ pub use showing::{show_cells, show_first};
 pub use summing::sums;
 
 // How many cells of each area are lent.
-#[derive(Drop)]
+#[derive(Clone, Copy)]
 pub struct Lent {
     pub items: usize,
     pub ends: usize,
@@ -21,7 +23,7 @@ pub struct Lent {
 }
 
 // Cells to set: the area, the first place, how many, the first number, the step; and the place after the command.
-#[derive(Drop)]
+#[derive(Clone, Copy)]
 struct Cells {
     area: usize,
     place: usize,

@@ -1,5 +1,7 @@
 // Char items one after another, with no runs and no marks: their texts and ends, without a branch that hangs on where a text
 // ends, since a processor can't foresee that.
+#![tactic(auto)]
+
 ghost use Rattle.std.specs.Prelude.{◌≡◌, map, ◌+◌, ◌*◌, ◌<◌, ◌≤◌, length, take, drop};
 ghost use Rattle.std.proofs.lemmas.List.Edits.{sets};
 ghost use Rattle.limits.specs.Limits.{MOST_ITEMS, MOST_WIDTH};

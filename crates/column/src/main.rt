@@ -1,6 +1,8 @@
 // The program `column`: lists one column of a sheet file, as the program `list` lists a block. Its arguments are the file's name and the
 // column's number, counted from 0. A file that can't be read is refused as 21, one above 65,536 bytes as 3, an argument that names no
 // column as 20; the rest are the sheet's own numbers.
+#![tactic(auto)]
+
 use limits::refusal;
 
 // Lists the column of an open file that the second argument names. Of an argument that is missing, or of more than 4,096 bytes, no bytes

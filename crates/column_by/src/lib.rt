@@ -1,4 +1,6 @@
 // What the program `column` is made of, apart from its calls on files: the column that an argument names, and its listing.
+#![tactic(auto)]
+
 ghost use Rattle.std.specs.Prelude.{◌≡◌, ◌≤◌, length};
 ghost use Rattle.limits.specs.Limits.{MOST_INPUT};
 ghost use Rattle.sheet.specs.Sheet.{column_found};
@@ -8,7 +10,7 @@ ghost use Rattle.column_by.specs.Asked.{column_asked};
 use limits::refusal;
 
 // The column that an argument names, or that it names none.
-#[derive(Drop)]
+#[derive(Clone, Copy)]
 pub enum Named {
     Column(usize),
     Nothing,

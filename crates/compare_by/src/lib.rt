@@ -1,5 +1,7 @@
 // What the program `compare` is made of, apart from its calls on files: two files compared, each a descriptor and a block, and the
 // ranges of rows that differ printed.
+#![tactic(auto)]
+
 ghost use Rattle.std.specs.Prelude.{◌≡◌, ◌≤◌, length};
 ghost use Rattle.comparing.specs.Comparing.{compared};
 ghost use Rattle.compare_by.specs.Asked.{SLOTS as slots_lent, descriptor_in, file_number, files_number, blocks_compared, files_compared, compares_asked};

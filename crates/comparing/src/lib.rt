@@ -1,4 +1,6 @@
 // Two blocks of one kind and width compared, in any encodings: the ranges of rows that differ, written into two lent lists.
+#![tactic(auto)]
+
 mod ranged;
 mod sides;
 
@@ -14,7 +16,7 @@ use sides::{Side, take_side};
 
 // What comparing answers: how many ranges were written, or a refusal.
 #[repr(C)]
-#[derive(Drop)]
+#[derive(Clone, Copy)]
 pub struct Compared {
     pub number: u8,
     pub ranges: usize,

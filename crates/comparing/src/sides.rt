@@ -8,7 +8,7 @@ use format::Column;
 use limits::refusal;
 
 // The parts of a sound block, or its refusal.
-#[derive(Drop)]
+#[derive(Clone, Copy)]
 pub enum Side {
     Whole(Parts),
     Refused(u8),

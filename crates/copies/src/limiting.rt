@@ -63,7 +63,7 @@ fn rows_counted(
 // ---- runs: stretch by stretch
 
 // So many of the rows that are left as one step counts in, and the numbers with them.
-#[derive(Drop)]
+#[derive(Clone, Copy)]
 struct Stretch {
     rows: usize,
     counted: Counted,

@@ -1,1 +1,3 @@
 // Theorems about the definitions; no code.
+#![tactic(auto)]
+

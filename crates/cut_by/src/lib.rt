@@ -1,11 +1,13 @@
 // Command 6 of `try_replay`: a list of rows, cut into blocks where the builder says so before a row.
+#![tactic(auto)]
+
 use builder::{Asked, Builder};
 use replay_by::{Given, Plan, State};
 use script::{first, number, past, refused, say, show_bytes, show_size};
 use trial::{Rows, Turn};
 
 // The builder of the block that isn't finished; the place of the equal rows that come next, and how many of them are in.
-#[derive(Drop)]
+#[derive(Clone, Copy)]
 struct Cut {
     builder: Builder,
     at: usize,

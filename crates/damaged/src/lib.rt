@@ -1,4 +1,6 @@
 // A dictionary block that meets all rules but 15, taken apart.
+#![tactic(auto)]
+
 ghost use Rattle.std.specs.Prelude.{◌≡◌};
 ghost use Rattle.damaged.specs.Taken.{taken_of};
 
@@ -8,7 +10,7 @@ use format::{Column, Encoding, Found};
 use limits::refusal;
 
 // The parts of such a block, or the refusal.
-#[derive(Drop)]
+#[derive(Clone, Copy)]
 pub enum Taken {
     Whole(Parts),
     Refused(u8),

@@ -1,4 +1,6 @@
 // A column's descriptor: its eight bytes taken apart and put together, and a block opened by it.
+#![tactic(auto)]
+
 ghost use Rattle.std.specs.Prelude.{◌≡◌, take};
 ghost use Rattle.block.specs.Reading.{opening_of};
 ghost use Rattle.descriptor.specs.Descriptor.{descriptor_of, packed_number, descriptor_bytes, described_opened};
@@ -8,7 +10,7 @@ use limits::refusal;
 
 // The five fields of a descriptor. `zero` is 0 in every descriptor that opens a block.
 #[repr(C)]
-#[derive(Drop)]
+#[derive(Clone, Copy)]
 pub struct Descriptor {
     pub kind: usize,
     pub encoding: usize,

@@ -1,4 +1,6 @@
 // Dictionary blocks: the head and the keys.
+#![tactic(auto)]
+
 ghost use Rattle.std.specs.Prelude.{◌≡◌, ◌+◌, ◌*◌, ◌<◌, ◌≤◌, ◌^◌, length};
 ghost use Rattle.limits.specs.Limits.{MOST_ITEMS};
 ghost use Rattle.plain.specs.Plain.{places};

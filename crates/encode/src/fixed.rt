@@ -7,7 +7,7 @@ use crate::{
 };
 
 // bool: one byte, 0 or 1; any nonzero byte reads as true.
-#[derive(Drop)]
+#[derive(Clone, Copy)]
 pub struct BoolKind {}
 
 impl BoolKind {
@@ -35,7 +35,7 @@ impl BoolKind {
 }
 
 // i16, little-endian.
-#[derive(Drop)]
+#[derive(Clone, Copy)]
 pub struct I16Kind {}
 
 impl I16Kind {
@@ -63,7 +63,7 @@ impl I16Kind {
 }
 
 // i32, little-endian.
-#[derive(Drop)]
+#[derive(Clone, Copy)]
 pub struct I32Kind {}
 
 impl I32Kind {
@@ -91,7 +91,7 @@ impl I32Kind {
 }
 
 // i64, little-endian.
-#[derive(Drop)]
+#[derive(Clone, Copy)]
 pub struct I64Kind {}
 
 impl I64Kind {
@@ -119,7 +119,7 @@ impl I64Kind {
 }
 
 // Days as an i32, big-endian.
-#[derive(Drop)]
+#[derive(Clone, Copy)]
 pub struct DateKind {}
 
 impl DateKind {
@@ -147,7 +147,7 @@ impl DateKind {
 }
 
 // Microseconds as an i64, big-endian.
-#[derive(Drop)]
+#[derive(Clone, Copy)]
 pub struct TimestampKind {}
 
 impl TimestampKind {
@@ -175,7 +175,7 @@ impl TimestampKind {
 }
 
 // The same with a time zone.
-#[derive(Drop)]
+#[derive(Clone, Copy)]
 pub struct TimestampTzKind {}
 
 impl TimestampTzKind {
@@ -203,7 +203,7 @@ impl TimestampTzKind {
 }
 
 // Months, then days, each an i32, big-endian; carried as months times 2^32 plus days modulo 2^32.
-#[derive(Drop)]
+#[derive(Clone, Copy)]
 pub struct IntervalKind {}
 
 impl IntervalKind {
@@ -231,7 +231,7 @@ impl IntervalKind {
 }
 
 // The bits of an f64, little-endian: each i64 is those of one, and rows are equal exactly when their bits are.
-#[derive(Drop)]
+#[derive(Clone, Copy)]
 pub struct F64Kind {}
 
 impl F64Kind {

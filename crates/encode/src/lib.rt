@@ -1,5 +1,7 @@
 // The fixed kinds, as encode.rs has them: a type for each with its width, its default, encode and decode. A value is
 // carried as an i64. An encoded item is passed whole, as eight bytes of which the unused ones are 0.
+#![tactic(auto)]
+
 mod fixed;
 
 ghost use Rattle.std.specs.Prelude.{◌≡◌, ◌+◌, ◌*◌, ◌<◌, ◌^◌, take};
@@ -15,7 +17,7 @@ pub use fixed::{
 };
 
 // The kinds of fixed width: bool, i16, i32, i64, Date, Timestamp, TimestampTz, Interval and f64.
-#[derive(Drop)]
+#[derive(Clone, Copy)]
 pub enum Primitive {
     Bool,
     I16,
@@ -30,7 +32,7 @@ pub enum Primitive {
 
 // How the items of a fixed kind are laid out, which kinds may share: a bool's byte; two, four or eight bytes, lowest first; four or
 // eight, highest first.
-#[derive(Drop)]
+#[derive(Clone, Copy)]
 pub enum Shape {
     Bool,
     Low2,
@@ -41,7 +43,7 @@ pub enum Shape {
 }
 
 // Every kind. A char has a width of 1 to 255. A blob's items are any bytes; those of a string are laid out alike and are text.
-#[derive(Drop)]
+#[derive(Clone, Copy)]
 pub enum Kind {
     Fixed(Primitive),
     Char(u8),
@@ -49,7 +51,7 @@ pub enum Kind {
 }
 
 // What a kind's number and a width name.
-#[derive(Drop)]
+#[derive(Clone, Copy)]
 pub enum FoundKind {
     Known(Kind),
     Unknown,

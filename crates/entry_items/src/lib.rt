@@ -1,4 +1,6 @@
 // An entry of a sound block as the item that a builder stores for it: a char with NULs up to its width, a bool as 0 or 1.
+#![tactic(auto)]
+
 ghost use Rattle.std.specs.Prelude.{◌≡◌, ◌+◌, ◌≤◌, ◌<◌, length};
 ghost use Rattle.std.proofs.lemmas.List.Edits.{sets};
 ghost use Rattle.limits.specs.Limits.{MOST_BYTES};

@@ -23,7 +23,7 @@ use Rattle.nullable.specs.Nullable.{presence}
 use Rattle.rle.specs.declared.Spot.{Spot}
 use Rattle.rle.specs.Stepping.{rows}
 use Rattle.source.specs.declared.Source.{Source}
-use Rattle.source.specs.Rows.{row_by, text_by, size_by, int_by, flag_by_lem, sum_of, capped, Texts}
+use Rattle.source.specs.Rows.{row_by, text_by, size_by, int_by, flag_by, sum_of, capped, Texts}
 use Rattle.source.proofs.Folds.{length-joined, length-ends}
 use Rattle.anatomy.specs.declared.Parts.{Parts}
 use Rattle.anatomy.specs.Parts.{marks_in, items_in}
@@ -49,8 +49,8 @@ module _ (s : Source) (marks items : List ℕ) where
   unfolding int_by
   int-by i = refl
 
-  flag_by_lem : (i : ℕ) → presence (row_by s marks items i) ≡ flag_by_lem s marks items i
-  unfolding flag_by_lem
+  flag_by_lem : (i : ℕ) → presence (row_by s marks items i) ≡ flag_by s marks items i
+  unfolding flag_by
   flag_by_lem i = refl
 
   text-by : (i : ℕ) → bytes_in (row_by s marks items i) ≡ text_by s marks items i

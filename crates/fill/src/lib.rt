@@ -1,4 +1,6 @@
 // Rows written into lent areas from the parts of a block, by any kind and encoding: nothing is written unless all of it is.
+#![tactic(auto)]
+
 mod fixed;
 mod texts;
 
@@ -13,7 +15,7 @@ use rle::Spot;
 
 // What writing some rows answers: 0, the bytes written of char, blob and string, and the place after the rows; or a refusal and the place
 // before them.
-#[derive(Drop)]
+#[derive(Clone, Copy)]
 pub struct Filled {
     pub number: u8,
     pub bytes: usize,

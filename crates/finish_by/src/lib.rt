@@ -1,4 +1,6 @@
 // Command 3 of `try_building`; and the cells after an append, or as 10 and 11 ask for them.
+#![tactic(auto)]
+
 use build_by::State;
 use cells::{bytes_of, ints_of, lent_bytes, words_of};
 use script::{number, say, show_byte, show_size};

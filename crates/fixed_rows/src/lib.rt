@@ -1,4 +1,6 @@
 // The second pass over the rows of a fixed kind: their values, and their flags, run by run. The first pass has found them there and good.
+#![tactic(auto)]
+
 ghost use Rattle.std.specs.Prelude.{◌≡◌, map, ◌≤◌, length};
 ghost use Rattle.std.proofs.lemmas.List.Edits.{sets};
 ghost use Rattle.limits.specs.Limits.{MOST_ITEMS};

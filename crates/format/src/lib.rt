@@ -1,4 +1,6 @@
 // Columns of every kind and encoding: which numbers name them, and whether a block is sound.
+#![tactic(auto)]
+
 ghost use Rattle.std.specs.Prelude.{◌≡◌, ◌≤◌, length};
 ghost use Rattle.limits.specs.Limits.{MOST_BYTES, MOST_ITEMS};
 ghost use Rattle.rle.specs.RunLength.{run_length_number};
@@ -12,7 +14,7 @@ use limits::refusal;
 use rle::RunHead;
 
 // How a column is laid out: encodings 0 to 4.
-#[derive(Drop)]
+#[derive(Clone, Copy)]
 pub enum Encoding {
     Plain,
     Nullable,
@@ -22,7 +24,7 @@ pub enum Encoding {
 }
 
 // What the numbers of a kind, an encoding and a width name together.
-#[derive(Drop)]
+#[derive(Clone, Copy)]
 pub enum Column {
     Of { kind: Kind, encoding: Encoding },
     Unknown,
@@ -31,7 +33,7 @@ pub enum Column {
 // The numbers at the head of a block: of its runs, of the bytes of their counts, of the bytes of its key block and of its entries. Those
 // that its encoding lacks are 0.
 #[repr(C)]
-#[derive(Drop)]
+#[derive(Clone, Copy)]
 pub struct Head {
     pub runs: usize,
     pub counts: usize,
@@ -40,7 +42,7 @@ pub struct Head {
 }
 
 // What a check finds: the head of a sound block, or the refusal.
-#[derive(Drop)]
+#[derive(Clone, Copy)]
 pub enum Found {
     Sound(Head),
     Refused(u8),

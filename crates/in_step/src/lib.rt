@@ -1,5 +1,7 @@
 // Two columns walked in step, run by run: each row of the one against the row of the other at its place, and where they differ recorded.
 // A step compares one item with one, however many rows have them.
+#![tactic(auto)]
+
 mod items;
 
 ghost use Rattle.std.specs.Prelude.{◌≡◌};
@@ -49,7 +51,7 @@ pub fn walk(
 }
 
 // How a column is walked: item by item of a fixed kind, where each row is one and none is null, or run by run.
-#[derive(Drop)]
+#[derive(Clone, Copy)]
 enum Way {
     Items(Primitive),
     Runs,

@@ -1,4 +1,6 @@
 // An opening and a read in turn, by their numbers: 0, or a refusal.
+#![tactic(auto)]
+
 ghost use Rattle.std.specs.Prelude.{◌≡◌};
 ghost use Rattle.in_turn.specs.InTurn.{first_refusal};
 

@@ -1,4 +1,6 @@
 // Rows that are an item each, not coded by runs: nothing of a fixed kind or of char can be wrong there, so they are written with no look.
+#![tactic(auto)]
+
 ghost use Rattle.std.specs.Prelude.{◌≡◌, false, ◌≤◌, ◌<◌, ◌^◌, length};
 ghost use Rattle.std.proofs.lemmas.List.Edits.{sets};
 ghost use Rattle.encode.specs.declared.Kind.TheVariants.{Fixed};

@@ -1,4 +1,6 @@
 // The limits of a block and of a sheet file, by name. Each number is written here for the code, and in specs/Limits.antt for the definitions.
+#![tactic(auto)]
+
 pub mod refusal;
 
 // The most rows of a block.

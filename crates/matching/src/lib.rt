@@ -1,4 +1,6 @@
 // One stored item against another.
+#![tactic(auto)]
+
 ghost use Rattle.std.specs.Prelude.{◌≡◌, ◌+◌, ◌*◌, ◌<◌, ◌≤◌, length, take, drop};
 ghost use Rattle.limits.specs.Limits.{MOST_ITEMS};
 ghost use Rattle.encode.specs.Kinds.{blob};

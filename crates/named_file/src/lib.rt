@@ -1,5 +1,7 @@
 // The files that a program's arguments name: read whole, as the listing programs read one, and made. Where that can't be done the reason
 // goes to standard error.
+#![tactic(auto)]
+
 ghost use Rattle.io.specs.Counts.{IsPrefixLen};
 
 // ---- a file read

@@ -1,4 +1,6 @@
 // What a builder has counted, and what that says of the block and of the lent areas: sizes, limits and needs.
+#![tactic(auto)]
+
 ghost use Rattle.std.specs.Prelude.{◌≡◌, true, false, ◌+◌, ◌*◌, ◌≤◌};
 ghost use Rattle.limits.specs.Limits.{MOST_ITEMS, MOST_ENTRIES, MOST_BYTES};
 ghost use Rattle.format.specs.declared.Encoding.TheVariants.{Dictionary};
@@ -12,7 +14,7 @@ use format::Encoding;
 // What was appended so far. Any numbers can stand here. Rows; runs; a dictionary's entries; the bytes of the stored items; the
 // last run's count; nonzero if the last row is null; the byte length of the counts.
 #[repr(C)]
-#[derive(Drop)]
+#[derive(Clone, Copy)]
 pub struct Counted {
     pub rows: usize,
     pub runs: usize,
@@ -24,7 +26,7 @@ pub struct Counted {
 }
 
 // How long each lent area is.
-#[derive(Drop)]
+#[derive(Clone, Copy)]
 pub struct Room {
     pub items: usize,
     pub ends: usize,

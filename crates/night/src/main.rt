@@ -12,11 +12,13 @@
 //
 // A file that can't be read counts as no bytes, and the reason goes to standard error; so does, after each hundred files, how many there
 // were and how many of them differ.
+#![tactic(auto)]
+
 ghost use Rattle.std.specs.Prelude.{◌<◌, length};
 ghost use Rattle.limits.specs.Limits.{MOST_INPUT};
 
 // How far the list is: the files so far, those of them that differ, whether there may be more, and whether the list couldn't be read on.
-#[derive(Drop)]
+#[derive(Clone, Copy)]
 struct Tally {
     files: usize,
     differs: usize,

@@ -1,5 +1,7 @@
 // What the program `night` is made of, apart from its calls on files: a file's rows asked of both engines, and a line printed that says
 // whether they agree. A file is a descriptor and a block, or a sheet file, whose columns are compared one by one.
+#![tactic(auto)]
+
 mod lines;
 
 ghost use Rattle.std.specs.Prelude.{◌≡◌, false, ◌||◌, ◌+◌, ◌≤◌, ◌<◌, length, take, drop};

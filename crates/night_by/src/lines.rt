@@ -8,14 +8,14 @@ const MOST: usize = 4102;
 
 // What a read of one line came to: so many bytes of it, without its end, are in the room; whether there may be a line behind it; whether the
 // list couldn't be read on.
-#[derive(Drop)]
+#[derive(Clone, Copy)]
 pub struct Line {
     pub len: usize,
     pub more: bool,
     pub failed: bool,
 }
 
-#[derive(Drop)]
+#[derive(Clone, Copy)]
 enum Got {
     Byte(u8),
     End,

@@ -1,4 +1,6 @@
 // The rows of a column asked of both engines: of the reader that opening gave, used anew for each row, and of the second engine.
+#![tactic(auto)]
+
 ghost use Rattle.std.specs.Prelude.{◌≡◌, true, [], ◌∷◌, ◌-◌, ◌≤◌, ◌<◌, pos, length, replicate};
 ghost use Rattle.plain.specs.Plain.{places};
 ghost use Rattle.fill.specs.Areas.{areas};
@@ -14,7 +16,7 @@ use limits::refusal;
 use slow_answer::RowGiven;
 
 // What comes of a comparison: so many rows are the same; both refuse the block, by this number; or they differ, first at this row.
-#[derive(Drop)]
+#[derive(Clone, Copy)]
 pub enum Verdict {
     Same(usize),
     Refused(u8),

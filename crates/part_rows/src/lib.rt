@@ -1,4 +1,6 @@
 // The next rows, looked at and written area by area from the parts of a block.
+#![tactic(auto)]
+
 ghost use Rattle.std.specs.Prelude.{◌≡◌, ◌≤◌, ◌<◌, ◌^◌, length};
 ghost use Rattle.std.proofs.lemmas.List.Edits.{sets};
 ghost use Rattle.encode.specs.declared.Kind.TheVariants.{Fixed};

@@ -1,8 +1,10 @@
 // Bytes that a command puts together from parts: the number of parts; for each how often it comes, its length and its bytes.
+#![tactic(auto)]
+
 use script::{byte, number, past};
 
 // The place after a part: in the input, and in the bytes.
-#[derive(Drop)]
+#[derive(Clone, Copy)]
 pub struct Places {
     pub at: usize,
     pub to: usize,

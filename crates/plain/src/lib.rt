@@ -1,4 +1,6 @@
 // Plain blocks of every kind: reading.
+#![tactic(auto)]
+
 mod texts;
 
 ghost use Rattle.std.specs.Prelude.{◌≡◌, true, map, ◌+◌, ◌*◌, ◌<◌, ◌≤◌, ◌^◌, length, take, drop};
@@ -230,7 +232,7 @@ fn char_len(s: &[u8], i: usize, w: usize) -> usize
 }
 
 // Where the bytes of an item lie in the block, and how many there are.
-#[derive(Drop)]
+#[derive(Clone, Copy)]
 pub struct Range {
     pub from: usize,
     pub len: usize,

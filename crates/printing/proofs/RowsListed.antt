@@ -32,18 +32,18 @@ use Rattle.reading_laws.proofs.Calls.{found, counts-add-up}
 use Rattle.reading_laws.proofs.Consequences.{read-depends-on-the-block-alone}
 use Rattle.reading_laws.proofs.RoomForOne.{Holds, row-given}
 use Rattle.reading_laws.proofs.RowsLeft.{Stands}
-use Rattle.printing.specs.Printing.{areas_for_one, next_row_lem, rows_refused, listed_of, listed}
+use Rattle.printing.specs.Printing.{areas_for_one, next_row, rows_refused, listed_of, listed}
 
 -- ---- one read: its answer hangs on the room that it is lent, not on what that holds
 pub next_row_lem : (r : Reader) (b : List ℕ) (v : ℤ) (f e : ℕ) (bytes : List ℕ) {x : Given}
-    → x ≡ (read r b 0 1 (areas (v ∷ []) (f ∷ []) (e ∷ []) bytes)).answer → x ≡ next_row_lem r b (length bytes)
-unfolding next_row_lem
+    → x ≡ (read r b 0 1 (areas (v ∷ []) (f ∷ []) (e ∷ []) bytes)).answer → x ≡ next_row r b (length bytes)
+unfolding next_row
 next_row_lem r b v f e bytes q =
     q ∙ (read-depends-on-the-block-alone r b (areas (v ∷ []) (f ∷ []) (e ∷ []) bytes) (areas_for_one (length bytes))
     (record { values = refl; flags = refl; ends = refl; bytes = sym (length-replicate (length bytes) 0) }) 0 1).answer
 
 -- ---- one after the other
-module _ (n i : ℕ) (r : Reader) (b : List ℕ) (room : ℕ) (left : i < n) {x : Given} (q : x ≡ next_row_lem r b room) where
+module _ (n i : ℕ) (r : Reader) (b : List ℕ) (room : ℕ) (left : i < n) {x : Given} (q : x ≡ next_row r b room) where
   one_more : {t : Bool} → eqb x.number 0 ≡ t → rows_refused (n - i) r b room ≡ cond t (rows_refused (n - (i + 1)) x.reader b room) x.number
   unfolding rows_refused
   one_more h = let z : n - i ≡ suc (n - (i + 1)) = omega arith in rw (z, ← h, q)
@@ -72,9 +72,9 @@ listing_start n r b bytes text = record {
 }
 
 module _ {n : ℕ} {r₀ : Reader} {b bytes₀ text₀ bytes text : List ℕ} {r : Reader} {i : ℕ} (g : Listing n r₀ b bytes₀ text₀ bytes text r i) where
-  module _ (left : i < n) {x : Given} (q : x ≡ next_row_lem r b (length bytes)) where
-    next : x ≡ next_row_lem r b (length bytes₀)
-    next = q ∙ ap (next_row_lem r b) g.bytes-kept
+  module _ (left : i < n) {x : Given} (q : x ≡ next_row r b (length bytes)) where
+    next : x ≡ next_row r b (length bytes₀)
+    next = q ∙ ap (next_row r b) g.bytes-kept
 
     pub listing_step : (x.number ≡ 0) → {bytes' text' : List ℕ} → length bytes' ≡ length bytes → length text' ≡ length text
         → Listing n r₀ b bytes₀ text₀ bytes' text' x.reader (i + 1)
@@ -121,14 +121,14 @@ module _ (r : Reader) (b : List ℕ) {l : Left} (q : l ≡ remaining r) where
 -- ---- of a block that was opened no row is refused
 rows-given : {k : Kind} {e : Encoding} {n : ℕ} {b : List ℕ} (room : ℕ) → length b ≤ room
     → (m : ℕ) (r : Reader) (is : List ℕ) → Stands k e n b r is → rows_refused m r b room ≡ 0
-unfolding rows_refused next_row_lem
+unfolding rows_refused next_row
 rows-given room l zero r is g = refl
 rows-given {b = b} room l (suc m) r is g =
     let h : Holds b (areas_for_one room) =
     record { values = omega arith; flags = omega arith; ends = omega arith; bytes = let z = length-replicate {A = ℕ} room 0 in omega arith } in
     let x = row-given g (areas_for_one room) h in
-    ap (λ (t : Bool). cond t (rows_refused m (next_row_lem r b room).reader b room) (next_row_lem r b room).number) (eq-eqb (next_row_lem r b room).number 0 x.number)
-    ∙ rows-given room l m (next_row_lem r b room).reader x.rest x.stands
+    ap (λ (t : Bool). cond t (rows_refused m (next_row r b room).reader b room) (next_row r b room).number) (eq-eqb (next_row r b room).number 0 x.number)
+    ∙ rows-given room l m (next_row r b room).reader x.rest x.stands
 
 pub opened-listed : (kind encoding width n : ℕ) (b : List ℕ) (r : Reader) → opened kind encoding width n b ≡ Open r → length b ≤ MOST_INPUT → listed r b ≡ 0
 unfolding after_all

@@ -1,5 +1,7 @@
 // The listing program's calls on files: it prints what `text` opens and the texts that `text` makes. Rows are read one after
 // the other, so that a listing of any length needs the room of one row only.
+#![tactic(auto)]
+
 ghost use Rattle.std.specs.Prelude.{◌≡◌, length, take};
 ghost use Rattle.limits.specs.Limits.{MOST_INPUT};
 ghost use Rattle.block.specs.Reading.{remaining};

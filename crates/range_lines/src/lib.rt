@@ -1,4 +1,6 @@
 // Ranges of rows printed on standard output, a line for each.
+#![tactic(auto)]
+
 ghost use Rattle.std.specs.Prelude.{◌≤◌, length};
 
 fn say(text: &[u8]) {

@@ -1,10 +1,12 @@
 // Ranges of places that are marked, put down as they end: in two lent lists, a range's slot being the same place in both. Where a slot
 // isn't there the range is counted alone.
+#![tactic(auto)]
+
 ghost use Rattle.std.specs.Prelude.{◌≡◌, false, ◌+◌, ◌<◌, ◌^◌};
 ghost use Rattle.ranges.specs.Recording.{mark, noted, ended, firsts_ended, lasts_ended, opened, added, firsts_added, lasts_added, Counted};
 
 // Where marking stands: whether a range has begun and not ended, where it began, the next place, and how many ranges have ended.
-#[derive(Drop)]
+#[derive(Clone, Copy)]
 pub struct Mark {
     pub begun: bool,
     pub first: usize,

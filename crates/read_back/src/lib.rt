@@ -1,4 +1,6 @@
 // A block read back by the commands of standard input: opening and reads, each with the rows that remain, and a block given.
+#![tactic(auto)]
+
 mod calls;
 mod showing;
 
@@ -7,7 +9,7 @@ use script::number;
 pub use showing::show_named;
 
 // What stands between two commands: the place in the input, the length of the block, its reader.
-#[derive(Drop)]
+#[derive(Clone, Copy)]
 pub struct Reading {
     pub at: usize,
     pub len: usize,
@@ -15,7 +17,7 @@ pub struct Reading {
 }
 
 // The numbers that name a column, and the place after them.
-#[derive(Drop)]
+#[derive(Clone, Copy)]
 pub struct Named {
     pub kind: usize,
     pub encoding: usize,

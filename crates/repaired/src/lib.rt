@@ -1,5 +1,7 @@
 // A dictionary column of which some keys may name no entry, read run by run with those runs as nulls: its next run as a builder would
 // make it, and the ranges of rows that are lost.
+#![tactic(auto)]
+
 ghost use Rattle.std.specs.Prelude.{◌≡◌, ◌∷◌, map, ◌+◌, ◌-◌, ◌*◌, ◌<◌, ◌≤◌, length};
 ghost use Rattle.limits.specs.Limits.{MOST_ITEMS, MOST_COUNT};
 ghost use Rattle.plain.specs.Rows.{same};
@@ -15,7 +17,7 @@ use source::{Marks, ShownRun, Source};
 
 // Rows that follow each other and are the same: the entry that they show, from 1 on (0 is null), how many they are, and the run that was
 // taken last, with the rows of it that are left.
-#[derive(Drop)]
+#[derive(Clone, Copy)]
 pub struct Repeated {
     pub slot: usize,
     pub rows: usize,

@@ -10,7 +10,7 @@ use Rattle.encode.specs.declared.Kind.{Kind}
 use Rattle.plain.specs.Rows.{Row}
 use Rattle.plain.specs.Plain.{item_of}
 use Rattle.rle.specs.RunLength.{run, runs_of}
-use Rattle.dict.specs.Dictionary.{entries_of, entry_row_lem}
+use Rattle.dict.specs.Dictionary.{entries_of, entry_row}
 use Rattle.source.specs.declared.ShownRun.{ShownRun}
 use Rattle.repaired.specs.Repaired.{rows_repaired, Entered}
 use Rattle.repaired.proofs.Merging.{FirstRun}
@@ -51,17 +51,17 @@ module _ (k : Kind) (entries runs : ℕ) (counts keys items : List ℕ) (n : ℕ
         keys-room h = writing-room _ _ _ _ _ _ _ _ _ _ g told (omega (arith, keys-long rows))
 
         module _ {kept : ℕ} (few : Entered k kept (there out₀)) (reads : plain_rows k kept (there out₀) ≡ entries_of rows)
-            {r : ℕ} (is : (r ≡ key_slot (plain_rows k kept (there out)) (entry_row_lem k entries items slot)) × (r ≤ kept + 1)) where
-          slot_of : r ≡ key_slot (entries_of rows) (entry_row_lem k entries items slot)
+            {r : ℕ} (is : (r ≡ key_slot (plain_rows k kept (there out)) (entry_row k entries items slot)) × (r ≤ kept + 1)) where
+          slot_of : r ≡ key_slot (entries_of rows) (entry_row k entries items slot)
           slot_of =
               is.0
-              ∙ ap (λ (l : List ℕ). key_slot (plain_rows k kept l) (entry_row_lem k entries items slot)) same-there
-              ∙ ap (λ (es : List Row). key_slot es (entry_row_lem k entries items slot)) reads
+              ∙ ap (λ (l : List ℕ). key_slot (plain_rows k kept l) (entry_row k entries items slot)) same-there
+              ∙ ap (λ (es : List Row). key_slot es (entry_row k entries items slot)) reads
 
-          item : little 4 (2147483648 + r) ≡ key_item (entries_of rows) (run (entry_row_lem k entries items slot) m)
+          item : little 4 (2147483648 + r) ≡ key_item (entries_of rows) (run (entry_row k entries items slot) m)
           item =
               ap (λ (i : ℕ). little 4 (2147483648 + i)) slot_of
-              ∙ key-item (entries_of rows) (entry_row_lem k entries items slot) (omega (arith, slot_of, few.few))
+              ∙ key-item (entries_of rows) (entry_row k entries items slot) (omega (arith, slot_of, few.few))
 
           pub keys_step : {to' : ℕ} {out' : List ℕ} → to' ≡ to + 4 → out' ≡ sets out to (little 4 (2147483648 + r)) → Keys out' to' (left - m) y
           unfolding item_of

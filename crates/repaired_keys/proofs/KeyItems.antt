@@ -22,7 +22,7 @@ use Rattle.plain.proofs.Each.{length-joined, fixed-wide}
 use Rattle.plain.proofs.Places.{length_over, get_d_over}
 use Rattle.plain.proofs.Same.{same-equal}
 use Rattle.rle.specs.RunLength.{Run, runs_of}
-use Rattle.dict.specs.Dictionary.{i32, index_of, entries_of, null_key, entry_key, key_of, entry_row_lem}
+use Rattle.dict.specs.Dictionary.{i32, index_of, entries_of, null_key, entry_key, key_of, entry_row}
 use Rattle.dict.proofs.Entries.{index-most}
 use Rattle.used.specs.Used.{plain_rows}
 use Rattle.used.proofs.Finding.{entry_row_lem}
@@ -37,15 +37,15 @@ row-slot es (Blob text) n items i = refl
 
 module _ (k : Kind) (entries : ℕ) (items : List ℕ) (kept : ℕ) (written : List ℕ) where
   abbrev Slotted : ℕ → ℕ → Type 0
-  Slotted slot r = (r ≡ key_slot (plain_rows k kept written) (entry_row_lem k entries items slot)) × (r ≤ kept + 1)
+  Slotted slot r = (r ≡ key_slot (plain_rows k kept written) (entry_row k entries items slot)) × (r ≤ kept + 1)
 
   pub null-slotted : {slot : ℕ} → slot ≡ 0 → Slotted slot 0
-  unfolding key_slot entry_row_lem
+  unfolding key_slot entry_row
   null-slotted e = rw e (refl, omega arith)
 
-  module _ (slot : ℕ) {i : ℕ} (is : i ≡ index_of (entry_row_lem k entries items slot) (plain_rows k kept written)) where
+  module _ (slot : ℕ) {i : ℕ} (is : i ≡ index_of (entry_row k entries items slot) (plain_rows k kept written)) where
     pub index-small : i ≤ kept
-    index-small = omega (arith, is, index-most (entry_row_lem k entries items slot) (plain_rows k kept written), length_over (plain_row k kept written) kept 0)
+    index-small = omega (arith, is, index-most (entry_row k entries items slot) (plain_rows k kept written), length_over (plain_row k kept written) kept 0)
 
     pub entry-slotted : 0 < slot → Slotted slot (i + 1)
     entry-slotted some = (
@@ -55,7 +55,7 @@ module _ (k : Kind) (entries : ℕ) (items : List ℕ) (kept : ℕ) (written : L
 
   -- entry i of those that are kept, from 0 on, which was compared
   module _ (apart : Apart (plain_rows k kept written)) {i : ℕ} (inside : i < kept) where
-    own-place : index_of (entry_row_lem k kept written (i + 1)) (plain_rows k kept written) ≡ i
+    own-place : index_of (entry_row k kept written (i + 1)) (plain_rows k kept written) ≡ i
     own-place =
         let e : i + 1 - 1 ≡ i = omega arith in
         ap (λ (r : Row). index_of r (plain_rows k kept written))
@@ -64,10 +64,10 @@ module _ (k : Kind) (entries : ℕ) (items : List ℕ) (kept : ℕ) (written : L
         ∙ sym (get_d_over (plain_row k kept written) kept 0 i null inside))
         ∙ apart i (omega (arith, length_over (plain_row k kept written) kept 0))
 
-    pub next-slotted : (slot : ℕ) → 0 < slot → {t : Bool} → t ≡ same (entry_row_lem k entries items slot) (entry_row_lem k kept written (i + 1)) → t ≡ true
+    pub next-slotted : (slot : ℕ) → 0 < slot → {t : Bool} → t ≡ same (entry_row k entries items slot) (entry_row k kept written (i + 1)) → t ≡ true
         → Slotted slot (i + 1)
     next-slotted slot some q h =
-        let e = same-equal (entry_row_lem k entries items slot) (entry_row_lem k kept written (i + 1)) (sym q ∙ h) in
+        let e = same-equal (entry_row k entries items slot) (entry_row k kept written (i + 1)) (sym q ∙ h) in
         entry-slotted slot (sym (ap (λ (r : Row). index_of r (plain_rows k kept written)) e ∙ own-place)) some
 
 -- ---- its bytes

@@ -9,7 +9,7 @@ use Rattle.area.proofs.Laws.{sets-append}
 use Rattle.encode.specs.declared.Kind.{Kind}
 use Rattle.plain.specs.Plain.{joined}
 use Rattle.rle.specs.RunLength.{Run, run, runs_of}
-use Rattle.dict.specs.Dictionary.{entry_row_lem}
+use Rattle.dict.specs.Dictionary.{entry_row}
 use Rattle.source.specs.declared.ShownRun.{ShownRun}
 use Rattle.repaired.specs.Repaired.{row_in, rows_repaired, rows_ahead, none_yet, Ahead}
 use Rattle.repaired.proofs.Ahead.{all-ahead, ahead_none}
@@ -57,7 +57,7 @@ module _ (f : Run → List ℕ) (k : Kind) (entries runs : ℕ) (counts keys ite
     -- one run more
     module _ {y : ShownRun} {slot m : ℕ} (told : FirstRun k entries runs counts keys items x left y slot m) where
       abbrev first : List ℕ
-      first = f (run (entry_row_lem k entries items slot) m)
+      first = f (run (entry_row k entries items slot) m)
 
       next : rest x left ≡ first ++ rest y (left - m)
       unfolding joined

@@ -1,4 +1,6 @@
 // The runs of a repaired column's block: their counts, and their keys, looked up among the entries that stand behind them already.
+#![tactic(auto)]
+
 ghost use Rattle.std.specs.Prelude.{◌≡◌, ◌+◌, ◌-◌, ◌*◌, ◌≤◌, length, take, drop};
 ghost use Rattle.std.proofs.lemmas.List.Edits.{sets};
 ghost use Rattle.rle.specs.RunLength.{runs_of, counts_of};

@@ -1,4 +1,6 @@
 // The sizes of the block of a repaired column, found run by run before anything is written.
+#![tactic(auto)]
+
 ghost use Rattle.std.specs.Prelude.{◌≡◌, [], ◌+◌, ◌*◌, ◌≤◌, ◌<◌, length};
 ghost use Rattle.limits.specs.Limits.{MOST_BYTES, MOST_COUNT};
 ghost use Rattle.varint.specs.Varint.{spelling};
@@ -10,7 +12,7 @@ ghost use Rattle.repaired_sizes.specs.Sizes.{sizes as sizes_by, sizes_of, keys_l
 use encode::Kind;
 
 // How many runs and the bytes of their counts, how many entries and the bytes of their items.
-#[derive(Drop)]
+#[derive(Clone, Copy)]
 pub struct Sizes {
     pub runs: usize,
     pub counts: usize,

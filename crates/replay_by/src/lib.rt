@@ -1,4 +1,6 @@
 // The commands on a builder and on the block that it makes, as `try_replay` tells them.
+#![tactic(auto)]
+
 mod building;
 mod taking;
 
@@ -10,7 +12,7 @@ use script::past;
 pub use taking::{Given, Plan, plan_at, planned, rows_at, text_of};
 
 // What stands between two commands: the builder, and the place in the input with what is read.
-#[derive(Drop)]
+#[derive(Clone, Copy)]
 pub struct State {
     pub builder: Builder,
     pub reading: Reading,

@@ -5,7 +5,7 @@ use script::{first, number, past, refused, rest, show_size};
 use trial::Rows;
 
 // What a builder is made by, and the place after it.
-#[derive(Drop)]
+#[derive(Clone, Copy)]
 pub struct Plan {
     pub named: Named,
     pub target: usize,
@@ -49,7 +49,7 @@ pub fn planned(plan: Plan) -> Builder {
 }
 
 // Equal rows, with a question before each; where their bytes stand; the place after them.
-#[derive(Drop)]
+#[derive(Clone, Copy)]
 pub struct Given {
     pub rows: Rows,
     pub from: usize,

@@ -1,4 +1,6 @@
 // All the commands of an input, as `try_replay` tells them, one after another.
+#![tactic(auto)]
+
 ghost use Rattle.std.specs.Prelude.{◌<◌};
 
 use replay_by::State;

@@ -1,4 +1,6 @@
 // Run-length blocks: the head, the walk over the counts, and steps from run to run.
+#![tactic(auto)]
+
 ghost use Rattle.std.specs.Prelude.{◌≡◌, ◌+◌, ◌≤◌, ◌<◌, length};
 ghost use Rattle.limits.specs.Limits.{MOST_BYTES, MOST_ITEMS};
 ghost use Rattle.rle.specs.declared.Gone.TheVariants.{To};
@@ -10,21 +12,21 @@ use limits::{MOST_ITEMS, MOST_ROWS, refusal};
 use varint::Count;
 
 // What a walk over the counts comes to: their sum, or the number of the first fault met.
-#[derive(Drop)]
+#[derive(Clone, Copy)]
 pub enum Walked {
     Total { rows: u64 },
     Refused(u8),
 }
 
 // What the first counts of a walk come to: the rows and the bytes of all of them, or the number of the first fault met.
-#[derive(Drop)]
+#[derive(Clone, Copy)]
 enum First {
     Counts { rows: u64, len: usize },
     Refused(u8),
 }
 
 // What opening finds at the head: no block at all, the numbers of runs and of bytes of the counts, or a fault.
-#[derive(Drop)]
+#[derive(Clone, Copy)]
 pub enum RunHead {
     Empty,
     Runs { runs: usize, counts: usize },
@@ -33,7 +35,7 @@ pub enum RunHead {
 
 // A place in the runs: the run, the byte at which its count begins, and the rows already taken of it.
 #[repr(C)]
-#[derive(Drop)]
+#[derive(Clone, Copy)]
 pub struct Spot {
     pub run: usize,
     pub at: usize,
@@ -41,28 +43,28 @@ pub struct Spot {
 }
 
 // The rows still in a run and the bytes of its count; or its count is missing or wrong.
-#[derive(Drop)]
+#[derive(Clone, Copy)]
 pub enum Rest {
     Rows { free: usize, len: usize },
     Wrong,
 }
 
 // Rows of one run and the place after them. A run that was used up gives none, and the place is the next run's.
-#[derive(Drop)]
+#[derive(Clone, Copy)]
 pub enum Piece {
     Rows { rows: usize, next: Spot },
     Stuck,
 }
 
 // The place after some rows, or a count on the way is missing or wrong.
-#[derive(Drop)]
+#[derive(Clone, Copy)]
 pub enum Reached {
     At(Spot),
     Stuck,
 }
 
 // Where rows that are passed over run by run lead: to a place, and the rows that are left to pass from there; or a count is missing or wrong.
-#[derive(Drop)]
+#[derive(Clone, Copy)]
 enum Gone {
     To { spot: Spot, left: usize },
     Stuck,

@@ -3,6 +3,8 @@
 // same descriptor and the repaired block. It is made before anything is printed: where that can't be done nothing is printed. Where the
 // damaged file is refused none is made, and one that is there stays as it was. A first argument that is missing and a damaged file that
 // can't be read count as no bytes, so they are refused as 10. What can't be read or made is told on standard error, with the reason.
+#![tactic(auto)]
+
 use salvaging::Salvaged;
 
 // Makes the file that is due, and answers whether it is there: after a refusal none is due.

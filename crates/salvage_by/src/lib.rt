@@ -1,5 +1,7 @@
 // What the program `salvage` is made of, apart from its calls on files: a file salvaged, which is a descriptor and a block, and the ranges
 // of rows that it lost printed.
+#![tactic(auto)]
+
 ghost use Rattle.std.specs.Prelude.{◌≡◌, ◌≤◌, length, take};
 ghost use Rattle.salvaging.specs.Salvaging.{salvaged};
 ghost use Rattle.salvage_by.specs.Asked.{SLOTS as slots_lent, descriptor_in, file_salvaged};

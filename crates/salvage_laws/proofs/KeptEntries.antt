@@ -9,7 +9,7 @@ use Rattle.limits.specs.Limits.{MOST_ENTRIES, MOST_BYTES}
 use Rattle.varint.proofs.OneSpelling.{Bytes}
 use Rattle.plain.specs.Each.{Each}
 use Rattle.plain.specs.Rows.{Row, null}
-use Rattle.plain.specs.Plain.{places, plain_of, plain_number, plain_row_lem}
+use Rattle.plain.specs.Plain.{places, plain_of, plain_number, plain_row}
 use Rattle.nullable.specs.Nullable.{presence}
 use Rattle.dict.specs.Dictionary.{entries_in, entries_of}
 use Rattle.format.specs.declared.Encoding.TheVariants.{Dictionary}
@@ -41,7 +41,7 @@ pub record Kept (k : Kind) (es : List Row) : Type 0 where
   pub few : length es ≤ MOST_ENTRIES
   pub small : length (plain_of k es) ≤ MOST_BYTES
   pub sound : plain_number k (length es) (plain_of k es) ≡ 0
-  pub back : map (plain_row_lem k (length es) (plain_of k es)) (places (length es) 0) ≡ es
+  pub back : map (plain_row k (length es) (plain_of k es)) (places (length es) 0) ≡ es
 
 module _ (k : Kind) (n : ℕ) (b : List ℕ) (sound : rules_but_15 (Of k Dictionary) n b ≡ 0) where
   abbrev es : List Row
@@ -66,7 +66,7 @@ module _ (k : Kind) (n : ℕ) (b : List ℕ) (sound : rules_but_15 (Of k Diction
         small = small;
         sound = plain-opens k es fits short;
         back =
-            over-list (plain_row_lem k (length es) (plain_of k es)) (kept k) es null (plain_row_lem k es fits short)
+            over-list (plain_row k (length es) (plain_of k es)) (kept k) es null (plain_row_lem k es fits short)
             ∙ map_each (kept k) (λ (r : Row). r) es all
             ∙ map-id es;
       }

@@ -6,7 +6,7 @@ use lib.ListN.{take, drop}
 use Rattle.encode.specs.declared.Kind.{Kind}
 use Rattle.encode.specs.declared.Kind.TheVariants.{Fixed, Char, Blob}
 use Rattle.plain.specs.Rows.{null, bytes, bytes_in}
-use Rattle.plain.specs.Plain.{char_at, plain_row_lem}
+use Rattle.plain.specs.Plain.{char_at, plain_row}
 use Rattle.dict.specs.Dictionary.{entry_row}
 use Rattle.format.specs.declared.Encoding.TheVariants.{Dictionary}
 use Rattle.format.specs.Blocks.{cut, stored_row}
@@ -19,8 +19,8 @@ null-own (Char w) = refl
 null-own (Blob text) = refl
 
 -- a char was cut when it was read
-plain-own : (k : Kind) (n : ℕ) (s : List ℕ) (i : ℕ) → cut k (plain_row_lem k n s i) ≡ plain_row_lem k n s i
-unfolding cut plain_row_lem char_at stored_row bytes_in
+plain-own : (k : Kind) (n : ℕ) (s : List ℕ) (i : ℕ) → cut k (plain_row k n s i) ≡ plain_row k n s i
+unfolding cut plain_row char_at stored_row bytes_in
 plain-own (Fixed p) n s i = refl
 plain-own (Char w) n s i = ap bytes (no-nul-stored w Dictionary (bytes (take w (drop (i * w) s))))
 plain-own (Blob text) n s i = refl

@@ -1,5 +1,7 @@
 // A dictionary block of which some keys name no entry, given back: its rows with those of such keys as nulls, in the block that our builder
 // gives for them, and the ranges of the rows that changed.
+#![tactic(auto)]
+
 ghost use Rattle.std.specs.Prelude.{◌≡◌};
 ghost use Rattle.salvaging.specs.Salvaging.{salvage as salvage_of, salvaged};
 ghost use Rattle.damaged.specs.Taken.{Takes};
@@ -13,7 +15,7 @@ use limits::refusal;
 
 // What salvaging answers: the bytes of the block that was written and how many ranges were, or a refusal.
 #[repr(C)]
-#[derive(Drop)]
+#[derive(Clone, Copy)]
 pub struct Salvaged {
     pub number: u8,
     pub len: usize,

@@ -1,11 +1,13 @@
 // What the programs share that run the commands of standard input: taking the input apart, and writing numbers. Nothing is asked of the
 // input: where it has no byte, 0 is taken.
+#![tactic(auto)]
+
 ghost use Rattle.std.specs.Prelude.{◌≡◌, ◌+◌, ◌%◌, ◌^◌, take, drop, slice_index};
 ghost use Rattle.encode.specs.Bytes.{low_first, number_of};
 ghost use Rattle.script.specs.Script.{byte_after, eight_after, taken_at};
 
 // A number of the input, and the place after it.
-#[derive(Drop)]
+#[derive(Clone, Copy)]
 pub struct Taken {
     pub value: usize,
     pub next: usize,

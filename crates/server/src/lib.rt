@@ -1,4 +1,6 @@
 // The server's builder: a record that append changes in place.
+#![tactic(auto)]
+
 ghost use Rattle.append.specs.Appending.{lent};
 ghost use Rattle.builder.specs.Promises.{Appends, answer_of};
 

@@ -1,5 +1,7 @@
 // A sheet file of many columns, and one of them opened: only its own entry and block are looked at, so a column that is damaged is
 // refused alone.
+#![tactic(auto)]
+
 ghost use Rattle.std.specs.Prelude.{◌≡◌, ◌+◌, ◌≤◌, ◌<◌, ◌^◌, length, take, drop};
 ghost use Rattle.encode.specs.Bytes.{high-first, number_of};
 ghost use Rattle.block.specs.Reading.{no_reader};
@@ -13,7 +15,7 @@ use limits::refusal;
 // What opening a column answers: 0, where its block lies in the file and a reader for it; or a refusal, no place, and the record that
 // every call refuses.
 #[repr(C)]
-#[derive(Drop)]
+#[derive(Clone, Copy)]
 pub struct Found {
     pub number: u8,
     pub from: usize,
@@ -22,7 +24,7 @@ pub struct Found {
 }
 
 // An entry of the directory.
-#[derive(Drop)]
+#[derive(Clone, Copy)]
 struct Entry {
     pub descriptor: Descriptor,
     pub from: usize,

@@ -19,7 +19,7 @@ use Rattle.sheet_writer.specs.declared.Written.{Written}
 use Rattle.sheet_writer.specs.declared.Summed.{Summed}
 use Rattle.sheet_writer.specs.declared.Summed.TheVariants.{Bytes, Refused}
 use Rattle.sheet_writer.specs.Writing.{filed_in, file_of, columns_lent, lent_file, blocks_number, write_number, written, Write, write_by, write}
-use Rattle.sheet_writer.specs.Lent.{lent_entries, lent_bytes, laid_out_lem, summed_by, room_number, write_from}
+use Rattle.sheet_writer.specs.Lent.{lent_entries, lent_bytes, laid_out, summed_by, room_number, write_from}
 use Rattle.sheet_writer.proofs.Files.{length-lent-entries, laid_out_lem, length-laid}
 
 -- an answer, and what the room then holds
@@ -33,28 +33,28 @@ refused-by (suc e) file out h = (refl, refl)
 
 -- ---- the blocks are held and sound
 module _ (n : ℕ) (ns bs out : List ℕ) (held : lent_bytes n ns ≤ length bs) where
-  long : length (laid_out_lem n ns bs) ≡ directory_end n + lent_bytes n ns
+  long : length (laid_out n ns bs) ≡ directory_end n + lent_bytes n ns
   long = length-laid n ns bs held
 
   pub too_long : MOST_FILE < directory_end n + lent_bytes n ns → {r : Written} → r ≡ written LIMIT 0 → Comes r out (write_from n ns bs out)
   unfolding room_number first_of
-  too_long h p = rw (p, long, lt-ltb MOST_FILE (directory_end n + lent_bytes n ns) h) (refused-by LIMIT (laid_out_lem n ns bs) out (omega arith))
+  too_long h p = rw (p, long, lt-ltb MOST_FILE (directory_end n + lent_bytes n ns) h) (refused-by LIMIT (laid_out n ns bs) out (omega arith))
 
   module _ (short : directory_end n + lent_bytes n ns ≤ MOST_FILE) where
     pub no_room : length out < directory_end n + lent_bytes n ns → {r : Written} → r ≡ written ROOM 0 → Comes r out (write_from n ns bs out)
     unfolding room_number first_of
     no_room h p =
         rw (p, long, le-ltb MOST_FILE (directory_end n + lent_bytes n ns) short, lt-ltb (length out) (directory_end n + lent_bytes n ns) h)
-        (refused-by ROOM (laid_out_lem n ns bs) out (omega arith))
+        (refused-by ROOM (laid_out n ns bs) out (omega arith))
 
     module _ (room : directory_end n + lent_bytes n ns ≤ length out) where
-      laid : sets (sets (set out 0 n) 1 (lent_entries n (directory_end n) ns)) (directory_end n) (take (lent_bytes n ns) bs) ≡ over out 0 (laid_out_lem n ns bs)
+      laid : sets (sets (set out 0 n) 1 (lent_entries n (directory_end n) ns)) (directory_end n) (take (lent_bytes n ns) bs) ≡ over out 0 (laid_out n ns bs)
       laid =
           let es : List ℕ = lent_entries n (directory_end n) ns in
           let e : 1 + length es ≡ directory_end n = omega (arith, length-lent-entries n (directory_end n) ns) in
           ap (λ (k : ℕ). sets (sets (set out 0 n) 1 es) k (take (lent_bytes n ns) bs)) (sym e)
           ∙ sym (sets-append es (take (lent_bytes n ns) bs) (set out 0 n) 1)
-          ∙ over-sets (laid_out_lem n ns bs) out 0 (omega (arith, long, room))
+          ∙ over-sets (laid_out n ns bs) out 0 (omega (arith, long, room))
 
       pub put : {bytes : ℕ} {out₁ out₂ : List ℕ} → bytes ≡ lent_bytes n ns → out₁ ≡ sets (set out 0 n) 1 (lent_entries n (directory_end n) ns)
           → out₂ ≡ sets out₁ (directory_end n) (take bytes (drop 0 bs)) → Comes (written 0 (directory_end n + bytes)) out₂ (write_from n ns bs out)

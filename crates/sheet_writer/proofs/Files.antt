@@ -11,7 +11,7 @@ use Rattle.plain.specs.Plain.{joined}
 use Rattle.descriptor.specs.Descriptor.{packed_number, descriptor_bytes}
 use Rattle.sheet.specs.Sheet.{directory_end}
 use Rattle.sheet_writer.specs.Writing.{Filed, blocks_of, entry_of, entries_from, file_of, length_at, first_filed, filed_in, blocks_number}
-use Rattle.sheet_writer.specs.Lent.{lent_entry, lent_entries, lent_bytes, laid_out_lem}
+use Rattle.sheet_writer.specs.Lent.{lent_entry, lent_entries, lent_bytes, laid_out}
 use Rattle.sheet_writer.proofs.Columns.{first-held, next-sound}
 
 -- ---- lengths
@@ -56,11 +56,11 @@ entries-same (suc n) at ns bs z =
     rw l (ap (λ (es : List ℕ). lent_entry at ns ++ es) (entries-same n (at + length_at ns) (drop 5 ns) (drop (length_at ns) bs) s.1))
 
 module _ (n : ℕ) (ns bs : List ℕ) where
-  pub laid_out_lem : blocks_number n ns bs ≡ 0 → file_of (filed_in n ns bs) ≡ laid_out_lem n ns bs
+  pub laid_out_lem : blocks_number n ns bs ≡ 0 → file_of (filed_in n ns bs) ≡ laid_out n ns bs
   unfolding file_of
   laid_out_lem z = rw (length-filed n ns bs, entries-same n (directory_end n) ns bs z, blocks-joined n ns bs z)
 
-  pub length-laid : lent_bytes n ns ≤ length bs → length (laid_out_lem n ns bs) ≡ directory_end n + lent_bytes n ns
+  pub length-laid : lent_bytes n ns ≤ length bs → length (laid_out n ns bs) ≡ directory_end n + lent_bytes n ns
   length-laid h =
       let a = length-append (lent_entries n (directory_end n) ns) (take (lent_bytes n ns) bs) in
       omega (arith, a, length-lent-entries n (directory_end n) ns, length-take-le (lent_bytes n ns) bs h)

@@ -1,4 +1,6 @@
 // A sheet file written in one call, whole or not at all.
+#![tactic(auto)]
+
 ghost use Rattle.std.specs.Prelude.{◌≡◌, [], ◌+◌, ◌*◌, ◌≤◌, length, drop};
 ghost use Rattle.std.proofs.lemmas.List.Edits.{sets};
 ghost use Rattle.limits.specs.Limits.{MOST_COLUMNS};
@@ -11,14 +13,14 @@ use limits::refusal;
 
 // What writing answers: the file's length, or a refusal.
 #[repr(C)]
-#[derive(Drop)]
+#[derive(Clone, Copy)]
 pub struct Written {
     pub number: u8,
     pub len: usize,
 }
 
 // What the blocks come to: their length, or the refusal of the first that is bad.
-#[derive(Drop)]
+#[derive(Clone, Copy)]
 enum Summed {
     Bytes(usize),
     Refused(u8),

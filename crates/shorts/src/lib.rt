@@ -1,10 +1,12 @@
 // Run counts that are a byte each, looked at and added up sixteen at a time. There is no early exit from a group, which lets the machine
 // code take all of it at once.
+#![tactic(auto)]
+
 ghost use Rattle.std.specs.Prelude.{◌≡◌, ◌+◌, ◌<◌, ◌≤◌, length, take, drop};
 ghost use Rattle.shorts.specs.Shorts.{shortness, as_is, sum_by, Group, Passes};
 
 // Some counts of a byte each, and the rows of their runs.
-#[derive(Drop)]
+#[derive(Clone, Copy)]
 pub struct Passed {
     pub runs: usize,
     pub rows: usize,

@@ -1,4 +1,6 @@
 // Reads rows into areas lent in part, and writes all that comes back, in hex: the answer, the whole reader and every lent byte.
+#![tactic(auto)]
+
 use block::{Given, Reader};
 use script::{say, show, show_byte, show_size};
 

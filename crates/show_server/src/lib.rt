@@ -1,5 +1,7 @@
 // Appends an integer so many times by the builder that append changes in place, and writes a line: the integer, how many times, the number,
 // and what the builder has counted.
+#![tactic(auto)]
+
 use builder::Builder;
 use script::say;
 use show_view::{byte, signed, size};

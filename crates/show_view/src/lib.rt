@@ -1,5 +1,7 @@
 // Reads sample A by the reader that keeps its block, and writes a line for each call: what was asked, the answer, and all that was lent.
 // Numbers are written in decimal, each after a space.
+#![tactic(auto)]
+
 use script::say;
 
 fn number(n: u64) {

@@ -1,4 +1,6 @@
 // The estimated size, and whether to finish before a next row, from what is counted and the targets alone.
+#![tactic(auto)]
+
 ghost use Rattle.std.specs.Prelude.{◌≡◌, false, cond, ◌+◌, ◌*◌, ◌≤◌, ltb};
 ghost use Rattle.limits.specs.Limits.{MOST_ITEMS, MOST_BYTES};
 ghost use Rattle.nullable.specs.Nullable.{bitmap_length};

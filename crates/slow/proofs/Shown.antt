@@ -24,7 +24,7 @@ use Rattle.fill.specs.Areas.{Areas}
 use Rattle.descriptor.specs.declared.Descriptor.{Descriptor}
 use Rattle.descriptor.specs.Descriptor.{described_number}
 use Rattle.slow_answer.specs.declared.RowGiven.{RowGiven}
-use Rattle.slow_answer.specs.Slow.{Shown, row_given, refused_row, shown_in, shown_of_lem, shown_by, row_shown}
+use Rattle.slow_answer.specs.Slow.{Shown, row_given, refused_row, shown_in, shown_of, shown_by, row_shown}
 use Rattle.slow_giving.specs.Giving.{Gives}
 use Rattle.slow_places.specs.declared.Place.{Place}
 use Rattle.slow_places.specs.Places.{Opened, Shows, items_at}
@@ -53,21 +53,21 @@ module _ (d : Descriptor) (b : List ℕ) where
   module _ (z : described_number d b ≡ 0) where
     -- ---- a block that is opened: the column's row is shown
     module _ (r : ℕ) (a : Areas) where
-      shown_of_lem : (c : Column) → named ≡ c → row_shown d b r a ≡ shown_of_lem c d.rows b r a
+      shown_of_lem : (c : Column) → named ≡ c → row_shown d b r a ≡ shown_of c d.rows b r a
       unfolding shown_by
-      shown_of_lem c e = ap (λ (m : ℕ). shown_by m named d.rows b r a) z ∙ ap (λ (j : Column). shown_of_lem j d.rows b r a) e
+      shown_of_lem c e = ap (λ (m : ℕ). shown_by m named d.rows b r a) z ∙ ap (λ (j : Column). shown_of j d.rows b r a) e
 
       pub unknown-shown : named ≡ Unknown → row_shown d b r a ≡ refused_row COLUMN a
-      unfolding shown_of_lem
+      unfolding shown_of
       unknown-shown e = shown_of_lem Unknown e
 
       module _ {k : Kind} {e : Encoding} (c : named ≡ Of k e) where
         pub far-shown : d.rows ≤ r → row_shown d b r a ≡ refused_row TOO_FAR a
-        unfolding shown_of_lem
+        unfolding shown_of
         far-shown h = shown_of_lem (Of k e) c ∙ simp (le-leb d.rows r h)
 
         near-shown : r < d.rows → row_shown d b r a ≡ shown_in k (get_or (rows_of k e d.rows b) r null) a
-        unfolding shown_of_lem
+        unfolding shown_of
         near-shown h = shown_of_lem (Of k e) c ∙ simp (lt-leb d.rows r h)
 
         pub place-shown :

@@ -1,5 +1,7 @@
 // Row r of a block, found from the block's start each time, with no reader kept: the second engine, which shares definitions and declared
 // types with the first and no function.
+#![tactic(auto)]
+
 ghost use Rattle.std.specs.Prelude.{◌≡◌};
 ghost use Rattle.fill.specs.Areas.{areas};
 ghost use Rattle.slow_answer.specs.Slow.{row_shown};

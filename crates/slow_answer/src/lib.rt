@@ -1,10 +1,12 @@
 // What a row comes back as from the second engine, and what is due.
+#![tactic(auto)]
+
 ghost use Rattle.std.specs.Prelude.{◌≡◌};
 ghost use Rattle.slow_answer.specs.Slow.{row_given};
 
 // A number, and the bytes written of char, blob and string.
 #[repr(C)]
-#[derive(Drop)]
+#[derive(Clone, Copy)]
 pub struct RowGiven {
     pub number: u8,
     pub bytes: usize,

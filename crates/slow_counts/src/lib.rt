@@ -1,4 +1,6 @@
 // The counts of runs, one after the other from the first: the second engine's own way, which shares no function with the first.
+#![tactic(auto)]
+
 ghost use Rattle.std.specs.Prelude.{◌≡◌, ◌≤◌, ◌<◌, length, get_or};
 ghost use Rattle.limits.specs.Limits.{MOST_ITEMS, MOST_BYTES};
 ghost use Rattle.rle.specs.RunLength.{walked, walk_number, run_numbers};

@@ -1,4 +1,6 @@
 // One row written in the form of a read of one row: the second engine's own way, which shares no function with the first.
+#![tactic(auto)]
+
 ghost use Rattle.std.specs.Prelude.{◌≡◌, ◌+◌, ◌≤◌, length, take, drop};
 ghost use Rattle.limits.specs.Limits.{MOST_ITEMS, MOST_BYTES};
 ghost use Rattle.plain.specs.Rows.{null};

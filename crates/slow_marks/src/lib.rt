@@ -1,4 +1,6 @@
 // The bits of a bitmap and the keys of a dictionary, one by one: the second engine's own way, which shares no function with the first.
+#![tactic(auto)]
+
 ghost use Rattle.std.specs.Prelude.{◌≡◌, not, ◌+◌, ◌*◌, ◌<◌, ◌≤◌, ◌^◌, eqb, length};
 ghost use Rattle.limits.specs.Limits.{MOST_ITEMS};
 ghost use Rattle.nullable.specs.Nullable.{bitmap_length, bit_at};

@@ -1,4 +1,6 @@
 // Numbers and run counts read byte by byte: the second engine's own way, which shares no function with the first.
+#![tactic(auto)]
+
 ghost use Rattle.std.specs.Prelude.{◌≡◌, ◌+◌, ◌≤◌, ◌<◌, ◌^◌, length, take, drop};
 ghost use Rattle.encode.specs.Bytes.{number_of};
 ghost use Rattle.varint.specs.declared.Count.TheVariants.{Number};

@@ -13,7 +13,7 @@ use lib.Seq.{take_all}
 use Rattle.limits.specs.Limits.{MOST_ITEMS}
 use Rattle.encode.specs.declared.Kind.{Kind}
 use Rattle.plain.specs.Rows.{Row, null}
-use Rattle.plain.specs.Plain.{places, plain_row_lem}
+use Rattle.plain.specs.Plain.{places, plain_row}
 use Rattle.plain.proofs.Places.{get_d_over}
 use Rattle.nullable.specs.Nullable.{bitmap_length, plain_part, bitmap_part, bit_at, nullable_row}
 use Rattle.nullable.proofs.Parts as NullableParts
@@ -46,7 +46,7 @@ module _ (k : Kind) (n : ℕ) (b : List ℕ) (i : ℕ) (l : i < n) where
   item-row : (f : ℕ → Row) → get_or (map f (places n 0)) i null ≡ f i
   item-row f = get_d_over f n 0 i null l ∙ ap f (zero-add i)
 
-  pub plain_row_lem : get_or (rows_of k Plain n b) i null ≡ plain_row_lem k n b i
+  pub plain_row_lem : get_or (rows_of k Plain n b) i null ≡ plain_row k n b i
   unfolding rows_of row_at places_of
   plain_row_lem = item-row (row_at k Plain n (head_of Plain b) b)
 
@@ -55,7 +55,7 @@ module _ (k : Kind) (n : ℕ) (b : List ℕ) (i : ℕ) (l : i < n) where
   nullable-row = item-row (row_at k Nullable n (head_of Nullable b) b)
 
 -- an item, counted from 1
-entry-item : (k : Kind) (n : ℕ) (s : List ℕ) (i : ℕ) → plain_row_lem k n s i ≡ entry_row k n s (i + 1)
+entry-item : (k : Kind) (n : ℕ) (s : List ℕ) (i : ℕ) → plain_row k n s i ≡ entry_row k n s (i + 1)
 unfolding entry_row
 entry-item k n s i = rw add-one
 
@@ -125,9 +125,9 @@ module _ (n : ℕ) (b : List ℕ) (i : ℕ) (l : i < n) (o : Opened Nullable n b
 
   -- t is what the bit said
   module _ {t : Bool} (q : t ≡ not (eqb (bit_at seen i) 0)) where
-    bit_is : (u : Bool) → eqb (bit_at seen i) 0 ≡ u → (k : Kind) → nullable_row k n b i ≡ cond u null (plain_row_lem k n (plain_part n b) i)
+    bit_is : (u : Bool) → eqb (bit_at seen i) 0 ≡ u → (k : Kind) → nullable_row k n b i ≡ cond u null (plain_row k n (plain_part n b) i)
     unfolding nullable_row
-    bit_is u r k = ap (λ (x : Bool). cond x null (plain_row_lem k n (plain_part n b) i)) (rw its-bitmap at r)
+    bit_is u r k = ap (λ (x : Bool). cond x null (plain_row k n (plain_part n b) i)) (rw its-bitmap at r)
 
     pub item-told : t ≡ true → Told Nullable n b i (place 0 bits n (i + 1))
     item-told r = shown_by (i + 1) (omega arith) (λ k. bit_is false (not-true _ (sym q ∙ r)) k ∙ entry-item k n (plain_part n b) i)

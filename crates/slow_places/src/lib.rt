@@ -1,4 +1,6 @@
 // Where the item of a row stands, found from the block's start: the second engine's own way, which shares no function with the first.
+#![tactic(auto)]
+
 ghost use Rattle.std.specs.Prelude.{◌≡◌, ℕ, ◌+◌, ◌*◌, ◌^◌, ◌≤◌, ◌<◌, length};
 ghost use Rattle.encode.specs.declared.Kind.{Kind};
 ghost use Rattle.rle.specs.RunLength.{runs_in};
@@ -11,7 +13,7 @@ ghost use Rattle.slow_places.specs.Inner.{Told, items_by, runs_by, Has, Counted,
 use format::Encoding;
 
 // Where a row's item stands: in the plain block from `from` to `to`, of so many items, from 1 on; 0 is null.
-#[derive(Drop)]
+#[derive(Clone, Copy)]
 pub struct Place {
     pub from: usize,
     pub to: usize,
@@ -64,7 +66,7 @@ fn item_place(nullable: bool, s: &[u8], n: usize, i: usize) -> Place
 // ---- a row that lies in a run
 
 // The run of a row, among so many, and where the block of their items begins.
-#[derive(Drop)]
+#[derive(Clone, Copy)]
 struct InRun {
     runs: usize,
     inner: usize,

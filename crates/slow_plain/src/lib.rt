@@ -1,4 +1,6 @@
 // Plain blocks, tested and read item by item: the second engine's own way, which shares no function with the first.
+#![tactic(auto)]
+
 ghost use Rattle.std.specs.Prelude.{◌≡◌, true, not, ◌+◌, ◌*◌, ◌^◌, ◌<◌, ◌≤◌, ltb, eqb, length, take, drop};
 ghost use Rattle.limits.specs.Limits.{MOST_ITEMS};
 ghost use Rattle.limits.specs.Refusals.{LENGTH};
@@ -12,7 +14,7 @@ use encode::{Kind, Primitive};
 use limits::refusal;
 
 // The bytes of an item: where they begin, and how many they are.
-#[derive(Drop)]
+#[derive(Clone, Copy)]
 pub struct Piece {
     pub from: usize,
     pub len: usize,

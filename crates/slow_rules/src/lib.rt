@@ -1,4 +1,6 @@
 // Opening's rules, tested from the block's start: the second engine's own way, which shares no function with the first.
+#![tactic(auto)]
+
 ghost use Rattle.std.specs.Prelude.{◌≡◌, not, ◌*◌, ◌≤◌, eqb, length};
 ghost use Rattle.limits.specs.Limits.{MOST_ITEMS, MOST_BYTES};
 ghost use Rattle.limits.specs.Refusals.{SUM};

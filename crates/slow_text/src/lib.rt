@@ -1,11 +1,13 @@
 // Text looked at byte by byte, by the table of the Unicode Standard: the second engine's own way, which shares no function with the first.
+#![tactic(auto)]
+
 ghost use Rattle.std.specs.Prelude.{◌≡◌, ◌+◌, ◌≤◌, length, take, drop};
 ghost use Rattle.utf8.specs.Utf8.{forms, start_in, next as next_due, is_text};
 ghost use Rattle.slow_text.specs.Due.{due_of};
 
 // What is due behind the bytes so far: so many bytes, of which the next lies between two numbers and the others are any that go on a
 // sequence; 4 stands for what nothing can mend.
-#[derive(Drop)]
+#[derive(Clone, Copy)]
 struct Due {
     left: u8,
     low: u8,

@@ -1,6 +1,8 @@
 // Where the rows of a block come from, whatever its encoding: its counts, its marks and its items. A place is an item or a run. Here are
 // the item that a place looks at and the one that it shows, the next run of the pass that looks and of the one that writes, and the
 // bytes and the flag of an item. `weigh`, `fixed_rows` and `byte_rows` have the loops.
+#![tactic(auto)]
+
 ghost use Rattle.std.specs.Prelude.{◌≡◌, true, ◌+◌, ◌-◌, ◌<◌, ◌≤◌, length, take, drop, replicate};
 ghost use Rattle.std.proofs.lemmas.List.Edits.{sets};
 ghost use Rattle.limits.specs.Limits.{MOST_ITEMS};
@@ -15,7 +17,7 @@ use plain::Range;
 use rle::{Piece, Spot};
 
 // What stands beside the items: nothing, a bit a row, or a key a run.
-#[derive(Drop)]
+#[derive(Clone, Copy)]
 pub enum Marks {
     Bare,
     Bits,
@@ -23,7 +25,7 @@ pub enum Marks {
 }
 
 // How the parts are read: the kind, the marks, the number of items and of runs, and whether rows are coded by runs.
-#[derive(Drop)]
+#[derive(Clone, Copy)]
 pub struct Source {
     pub kind: Kind,
     pub marks: Marks,
@@ -33,7 +35,7 @@ pub struct Source {
 }
 
 // The bytes of an item; or it is wrong.
-#[derive(Drop)]
+#[derive(Clone, Copy)]
 pub enum Weight {
     Sum(usize),
     Broken,
@@ -41,7 +43,7 @@ pub enum Weight {
 
 // The bytes of the next rows, of which one more than a read can give stands for all that are more, and the place after them; or a
 // count, an item or a key is wrong.
-#[derive(Drop)]
+#[derive(Clone, Copy)]
 pub enum Weighed {
     Total { bytes: usize, next: Spot },
     Stuck,
@@ -49,7 +51,7 @@ pub enum Weighed {
 
 // A run that is looked at: its item, from 1 on (0 is none: a null key has none, and a run that was used up is not looked at),
 // how many rows, and the place after them; or the count or the key is wrong.
-#[derive(Drop)]
+#[derive(Clone, Copy)]
 pub enum Look {
     Item {
         seen: usize,
@@ -61,7 +63,7 @@ pub enum Look {
 
 // A run of which rows are written: its item, from 1 on (0 is null, and stands for a run that was used up too), how many
 // rows, and the place after them.
-#[derive(Drop)]
+#[derive(Clone, Copy)]
 pub struct ShownRun {
     pub slot: usize,
     pub rows: usize,

@@ -1,4 +1,6 @@
 // What an append finds for its row, and the counted numbers with the row counted in.
+#![tactic(auto)]
+
 mod counting;
 mod finding;
 
@@ -10,14 +12,14 @@ use needs::Counted;
 
 // What an append comes to: whether the row is a stored item more, whether it joins the last run, and its key; or a field
 // that was read is wrong.
-#[derive(Drop)]
+#[derive(Clone, Copy)]
 pub enum Step {
     Row { stored: bool, joins: bool, key: i32 },
     Wrong,
 }
 
 // What counting a row in answers: 0 and the next numbers, or a refusal with the numbers as they were.
-#[derive(Drop)]
+#[derive(Clone, Copy)]
 pub struct Next {
     pub number: u8,
     pub counted: Counted,

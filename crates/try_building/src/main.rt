@@ -21,6 +21,8 @@
 // The areas are 0 items, 1 ends, 2 flags, 3 counts, 4 keys, 5 lengths, 6 the room. Shown are the lent cells and two past them.
 // Presence is 0 for a null, 1 for a row that is there; in 2 also 2: a null where the first integer comes again.
 // Bytes come (2) from here, 0; from the start of the room, 1; or are the first of the integer's, lowest first, 2.
+#![tactic(auto)]
+
 mod lending;
 
 fn main() {

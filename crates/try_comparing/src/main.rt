@@ -8,6 +8,8 @@
 // 2 compares the first block with the second: of each, kind, encoding, width, zero and rows; how many slots of either list are lent.
 // 3 compares the second block with the first, by the same numbers in the same order.
 // 4 prints what the program `compare` prints of two files whose bytes are the two blocks.
+#![tactic(auto)]
+
 ghost use Rattle.std.specs.Prelude.{◌≡◌, length};
 
 use comparing::Compared;
@@ -16,7 +18,7 @@ use parts_by::{Places, parts};
 use script::{byte, first, number, past, say, show_byte, show_size};
 
 // What stands between two commands: the place in the input, the lengths of the two blocks.
-#[derive(Drop)]
+#[derive(Clone, Copy)]
 struct State {
     at: usize,
     one: usize,
@@ -24,7 +26,7 @@ struct State {
 }
 
 // The numbers of a comparison, and the place after them.
-#[derive(Drop)]
+#[derive(Clone, Copy)]
 struct Asked {
     a: Descriptor,
     b: Descriptor,
@@ -34,7 +36,7 @@ struct Asked {
 }
 
 // A descriptor's numbers, and the place after them.
-#[derive(Drop)]
+#[derive(Clone, Copy)]
 struct Described {
     descriptor: Descriptor,
     next: usize,

@@ -1,5 +1,7 @@
 // Runs the kinds and the run counts on chosen values, and writes a line for each: the input, and the bytes and numbers that the code gave. The file
 // stdout has what the format says of them.
+#![tactic(auto)]
+
 use script::say;
 
 fn number(n: u64) {

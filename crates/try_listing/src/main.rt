@@ -5,6 +5,8 @@
 // With 2^31 added to its length, it is opened, and changed before its rows are listed: five bytes more are a place in its block, how many
 // rows are passed over first, two bytes each, and the byte that then comes to that place. Of an input that isn't opened, the rows are listed
 // by the record that stands beside a refused opening.
+#![tactic(auto)]
+
 ghost use Rattle.std.specs.Prelude.{◌≡◌, length};
 
 use block::{Opened, Reader};

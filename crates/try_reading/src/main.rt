@@ -9,6 +9,8 @@
 // 4 sets a field of the reader: which one, counted from 0; the number.
 // 5 changes a byte of the block: the place; the byte, as it is.
 // 6 lends the block at another length from here on: the length.
+#![tactic(auto)]
+
 ghost use Rattle.std.specs.Prelude.{◌≡◌, length};
 
 use block::{Opened, Reader};
@@ -17,7 +19,7 @@ use script::{byte, first, number, past, say, show, show_byte, show_size};
 use show_reader::{give_into, show_reader};
 
 // What stands between two commands: the place in the input, the length of the lent block, the reader.
-#[derive(Drop)]
+#[derive(Clone, Copy)]
 struct State {
     at: usize,
     len: usize,

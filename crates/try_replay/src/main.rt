@@ -14,6 +14,8 @@
 //   last block is shown too, if it has a row.
 //
 // What is refused says so, and nothing of it is in the answers: the original has no refusals.
+#![tactic(auto)]
+
 ghost use Rattle.std.specs.Prelude.{◌≡◌, length};
 
 // Room for the commands.

@@ -7,6 +7,8 @@
 // 1 changes a byte of it: the place; the byte, as it is.
 // 2 salvages it: kind, encoding, width, zero and rows; how many slots of either list are lent, and how many bytes.
 // 3 prints what the program `salvage` prints of a file whose bytes are the block, and shows the file that it makes.
+#![tactic(auto)]
+
 ghost use Rattle.std.specs.Prelude.{◌≡◌, length};
 
 use descriptor::Descriptor;
@@ -15,14 +17,14 @@ use salvaging::Salvaged;
 use script::{byte, first, number, past, say, show, show_byte, show_bytes, show_size};
 
 // What stands between two commands: the place in the input, the length of the block.
-#[derive(Drop)]
+#[derive(Clone, Copy)]
 struct State {
     at: usize,
     len: usize,
 }
 
 // The numbers of a salvage, and the place after them.
-#[derive(Drop)]
+#[derive(Clone, Copy)]
 struct Asked {
     descriptor: Descriptor,
     firsts: usize,

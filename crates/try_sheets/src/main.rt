@@ -10,6 +10,8 @@
 // 4 writes a file whose blocks are the bytes of the file so far: the length of the lent memory; how many numbers; the numbers.
 // 5 does the same, and goes on with the file that was written.
 // 6 lists a column of the file as the program `column` does: the length of the argument that names it; its bytes.
+#![tactic(auto)]
+
 ghost use Rattle.std.specs.Prelude.{◌≡◌, length};
 
 use parts_by::{copy, parts, put};
@@ -19,7 +21,7 @@ use sheet_writer::Written;
 use show_reader::{give_into, show_reader};
 
 // What stands between two commands: the place in the input, the length of the lent file.
-#[derive(Drop)]
+#[derive(Clone, Copy)]
 struct State {
     at: usize,
     len: usize,

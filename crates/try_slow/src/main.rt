@@ -10,6 +10,8 @@
 // 4 asks for a row of it: the row; the lengths of the lent values, flags, ends and bytes.
 // 5 prints what the program `night` prints of a file whose bytes are the block, and whether it is one that differs.
 // 6 does the same of a sheet file.
+#![tactic(auto)]
+
 ghost use Rattle.std.specs.Prelude.{◌≡◌, length};
 
 use descriptor::Descriptor;
@@ -18,7 +20,7 @@ use script::{byte, first, number, past, say, show, show_byte, show_bytes, show_s
 use slow_answer::RowGiven;
 
 // What stands between two commands: the place in the input, the length of the lent block, the column.
-#[derive(Drop)]
+#[derive(Clone, Copy)]
 struct State {
     at: usize,
     len: usize,

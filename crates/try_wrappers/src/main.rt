@@ -1,5 +1,7 @@
 // Runs the builder that append changes in place and the reader that keeps its block, on sample A and on calls that are refused,
 // and writes a line for each call. The file stdout has what the definitions say of them.
+#![tactic(auto)]
+
 use builder::{Builder, Created};
 use script::say;
 use show_server::append;

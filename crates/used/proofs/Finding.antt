@@ -18,13 +18,13 @@ use Rattle.plain.specs.Plain.{places, fixed_at, char_at, start_at, end_at, plain
 use Rattle.plain.proofs.Items.{item_room}
 use Rattle.plain.proofs.Numbers.{plain-least, plain-good}
 use Rattle.plain.proofs.Ranges.{Lies, least-found, blob-least, blob-good}
-use Rattle.dict.specs.Dictionary.{index_of, entry_row_lem}
+use Rattle.dict.specs.Dictionary.{index_of, entry_row}
 use Rattle.lookup.specs.First.{first_at, first_value}
 use Rattle.used.specs.Used.{plain_rows}
 
 -- an item that is counted from 1 on
-pub entry_row_lem : (k : Kind) (n : ℕ) (items : List ℕ) (slot : ℕ) → 0 < slot → entry_row_lem k n items slot ≡ plain_row k n items (slot - 1)
-unfolding entry_row_lem
+pub entry_row_lem : (k : Kind) (n : ℕ) (items : List ℕ) (slot : ℕ) → 0 < slot → entry_row k n items slot ≡ plain_row k n items (slot - 1)
+unfolding entry_row
 entry_row_lem k n items zero h = absurd (omega arith)
 entry_row_lem k n items (suc j) h = let e : suc j - 1 ≡ j = omega arith in rw e
 
@@ -72,17 +72,17 @@ module _ {k : Kind} (n : ℕ) (items : List ℕ) (sound : plain_number k n items
 -- the bytes that were looked for are those of an item that is counted from 1 on
 module _ {k : Kind} (n : ℕ) (items : List ℕ) (m : ℕ) (others : List ℕ) (slot : ℕ) (some : 0 < slot) (from len : ℕ) {r : ℕ} where
   pub char-found : {w : ℕ} → k ≡ Char w → Lies (Char w) m others (slot - 1) from len → r ≡ index_of (bytes (take len (drop from others))) (plain_rows (Char w) n items)
-      → r ≡ index_of (entry_row_lem k m others slot) (plain_rows k n items)
+      → r ≡ index_of (entry_row k m others slot) (plain_rows k n items)
   unfolding plain_row bytes_in
   char-found {w} e l q =
-      subst (λ (j : Kind). r ≡ index_of (entry_row_lem j m others slot) (plain_rows j n items)) (sym e)
+      subst (λ (j : Kind). r ≡ index_of (entry_row j m others slot) (plain_rows j n items)) (sym e)
       (q ∙ ap (λ (x : Row). index_of x (plain_rows (Char w) n items)) (ap bytes l.1 ∙ sym (entry_row_lem (Char w) m others slot some)))
 
   pub blob-found : {text : Bool} → k ≡ Blob text → Lies blob m others (slot - 1) from len → r ≡ index_of (bytes (take len (drop from others))) (plain_rows blob n items)
-      → r ≡ index_of (entry_row_lem k m others slot) (plain_rows k n items)
+      → r ≡ index_of (entry_row k m others slot) (plain_rows k n items)
   unfolding plain_row bytes_in
   blob-found {text} e l q =
-      subst (λ (j : Kind). r ≡ index_of (entry_row_lem j m others slot) (plain_rows j n items)) (sym e)
+      subst (λ (j : Kind). r ≡ index_of (entry_row j m others slot) (plain_rows j n items)) (sym e)
       (q ∙ ap (λ (x : Row). index_of x (plain_rows (Blob text) n items)) (ap bytes l.1 ∙ sym (entry_row_lem (Blob text) m others slot some)))
 
 -- ---- a fixed kind, which a match found
@@ -96,9 +96,9 @@ module _ {k : Kind} {p : Primitive} (e : k ≡ Fixed p) where
 
   -- v is the value that the code reads
   pub value_found : (n : ℕ) (items : List ℕ) (m : ℕ) (others : List ℕ) (slot : ℕ) {v : ℤ} {r : ℕ} → 0 < slot → v ≡ fixed_at p others (slot - 1)
-      → r ≡ first_value p items n v → r ≡ index_of (entry_row_lem k m others slot) (plain_rows k n items)
+      → r ≡ first_value p items n v → r ≡ index_of (entry_row k m others slot) (plain_rows k n items)
   unfolding first_value same plain_row
   value_found n items m others slot {v} {r} some is q =
-      subst (λ (j : Kind). r ≡ index_of (entry_row_lem j m others slot) (plain_rows j n items)) (sym e)
+      subst (λ (j : Kind). r ≡ index_of (entry_row j m others slot) (plain_rows j n items)) (sym e)
       (q ∙ first_found (Fixed p) n items (int v)
       ∙ ap (λ (x : Row). index_of x (plain_rows (Fixed p) n items)) (ap int is ∙ sym (entry_row_lem (Fixed p) m others slot some)))

@@ -16,7 +16,7 @@ use Rattle.plain.specs.Plain.{plain_row}
 use Rattle.plain.proofs.Places.{length_over, get_d_over}
 use Rattle.plain.proofs.Same.{same-equal, same_self}
 use Rattle.nullable.specs.Nullable.{bit_at}
-use Rattle.dict.specs.Dictionary.{index_of, with_entry, entry_row_lem}
+use Rattle.dict.specs.Dictionary.{index_of, with_entry, entry_row}
 use Rattle.dict.proofs.Entries.{index-row, index-first, among, among-last, with-old, with-new}
 use Rattle.used.specs.Used.{plain_rows, first_like, is_new, Firsts, Used}
 use Rattle.used.proofs.Finding.{entry_row_lem}
@@ -111,26 +111,26 @@ module _ (k : Kind) (n : ℕ) (items : List ℕ) where
 
   -- ---- an item that is counted from 1 on
   module _ (slot : ℕ) (some : 0 < slot) (inside : slot ≤ n) where
-    like : index_of (entry_row_lem k n items slot) (plain_rows k n items) ≡ first_like k n items (slot - 1)
+    like : index_of (entry_row k n items slot) (plain_rows k n items) ≡ first_like k n items (slot - 1)
     like = ap (λ (r : Row). index_of r (plain_rows k n items)) (entry_row_lem k n items slot some)
 
-    pub like-inside : index_of (entry_row_lem k n items slot) (plain_rows k n items) < n
+    pub like-inside : index_of (entry_row k n items slot) (plain_rows k n items) < n
     like-inside = let b = first-before (slot - 1) (omega arith) in let e = like in omega arith
 
     -- marked, it is the first of its like
-    pub own_like : {bits : List ℕ} → Firsts k n items bits → bit_at bits (slot - 1) ≡ 1 → slot - 1 ≡ index_of (entry_row_lem k n items slot) (plain_rows k n items)
+    pub own_like : {bits : List ℕ} → Firsts k n items bits → bit_at bits (slot - 1) ≡ 1 → slot - 1 ≡ index_of (entry_row k n items slot) (plain_rows k n items)
     own_like f m = sym (like ∙ f.first (slot - 1) (omega arith) m)
 
     -- what the mark of the first of its like says, and what setting it does
-    module _ {bits : List ℕ} {es : List Row} (u : Used k n items bits es) {name : ℕ} (named : name ≡ index_of (entry_row_lem k n items slot) (plain_rows k n items)) where
+    module _ {bits : List ℕ} {es : List Row} (u : Used k n items bits es) {name : ℕ} (named : name ≡ index_of (entry_row k n items slot) (plain_rows k n items)) where
       -- whether it is unmarked is whether its row is new
-      pub used-new : not (eqb (bit_at bits name) 1) ≡ is_new es (entry_row_lem k n items slot)
+      pub used-new : not (eqb (bit_at bits name) 1) ≡ is_new es (entry_row k n items slot)
       unfolding is_new
       used-new = rw (named, entry_row_lem k n items slot some) (ap not (mark-says u (slot - 1) (omega arith)))
 
       -- marked now, whether it was before or not
       pub used-after : (bits' : List ℕ) → length bits' ≡ length bits → ((i : ℕ) → bit_at bits' i ≡ cond (eqb name i) 1 (bit_at bits i))
-          → Used k n items bits' (with_entry es (entry_row_lem k n items slot))
+          → Used k n items bits' (with_entry es (entry_row k n items slot))
       used-after bits' long set =
           rw (entry_row_lem k n items slot some)
           (marked-now u (slot - 1) (omega arith) bits' long (λ i. set i ∙ ap (λ (f : ℕ). cond (eqb f i) 1 (bit_at bits i)) (named ∙ like)))

@@ -11,7 +11,7 @@ use Rattle.encode.specs.declared.Kind.{Kind}
 use Rattle.plain.specs.Rows.{Row, null, same}
 use Rattle.plain.specs.Plain.{plain_row}
 use Rattle.nullable.specs.Nullable.{bit_at}
-use Rattle.dict.specs.Dictionary.{index_of, with_entry, entry_row_lem}
+use Rattle.dict.specs.Dictionary.{index_of, with_entry, entry_row}
 use Rattle.dict.proofs.Entries.{among, with-old, with-new, own-there}
 use Rattle.used.specs.Used.{plain_rows, is_new, Met, Shown}
 use Rattle.used.proofs.Finding.{entry_row_lem}
@@ -22,8 +22,8 @@ abbrev pub Marked : List ℕ → ℕ → List ℕ → Type 0
 Marked bits i bits' = (length bits' ≡ length bits) × ((j : ℕ) → bit_at bits' j ≡ cond (eqb i j) 1 (bit_at bits j))
 
 -- nulls add no row, and neither does a row that isn't new
-pub null-stays : (k : Kind) (n : ℕ) (items : List ℕ) (slot : ℕ) → slot ≤ 0 → (es : List Row) → with_entry es (entry_row_lem k n items slot) ≡ es
-unfolding entry_row_lem with_entry
+pub null-stays : (k : Kind) (n : ℕ) (items : List ℕ) (slot : ℕ) → slot ≤ 0 → (es : List Row) → with_entry es (entry_row k n items slot) ≡ es
+unfolding entry_row with_entry
 null-stays k n items slot h es = let z : slot ≡ 0 = omega arith in rw z
 
 pub old-stays : (es : List Row) (r : Row) → is_new es r ≡ false → with_entry es r ≡ es
@@ -32,7 +32,7 @@ old-stays es r h = with-old es r (not-false _ h)
 
 module _ (k : Kind) (n : ℕ) (items : List ℕ) (slot : ℕ) (some : 0 < slot) where
   abbrev row : Row
-  row = entry_row_lem k n items slot
+  row = entry_row k n items slot
 
   some-entry : row ≡ null → ⊥
   some-entry e = some-row k n items (slot - 1) (sym (entry_row_lem k n items slot some) ∙ e)

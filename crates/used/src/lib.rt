@@ -1,4 +1,6 @@
 // The entries of a dictionary block that rows use: which entry is the first that reads the same, and which of them have been used before.
+#![tactic(auto)]
+
 ghost use Rattle.std.specs.Prelude.{◌≡◌, true, cond, not, List, ℕ, ◌+◌, ◌*◌, ◌<◌, ◌≤◌, eqb, length, take, drop};
 ghost use Rattle.limits.specs.Limits.{MOST_ITEMS};
 ghost use Rattle.encode.specs.Kinds.{blob};

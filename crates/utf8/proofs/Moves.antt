@@ -94,23 +94,23 @@ every-move s b h k =
     (ltb-true _ _ p.0, same-due _ _ p.1)
 
 -- ---- the state 0 alone is one in which a text may end
-eq_bool_lem : Bool → Bool → Bool
-eq_bool_lem true b = b
-eq_bool_lem false true = false
-eq_bool_lem false false = true
+eq_bool : Bool → Bool → Bool
+eq_bool true b = b
+eq_bool false true = false
+eq_bool false false = true
 
-eq_bool_lem : (a b : Bool) → eq_bool_lem a b ≡ true → a ≡ b
-unfolding eq_bool_lem
+eq_bool_lem : (a b : Bool) → eq_bool a b ≡ true → a ≡ b
+unfolding eq_bool
 eq_bool_lem true true t = refl
 eq_bool_lem true false t = apart t
 eq_bool_lem false true t = apart t
 eq_bool_lem false false t = refl
 
 ends : ℕ → Bool
-ends s = eq_bool_lem (eqb s 0) (whole (due_in s))
+ends s = eq_bool (eqb s 0) (whole (due_in s))
 
 all_end : below 9 ends ≡ true
-unfolding ends eq_bool_lem
+unfolding ends eq_bool
 all_end = refl
 
 pub ends-right : (s : ℕ) → s < 9 → eqb s 0 ≡ whole (due_in s)

@@ -1,4 +1,6 @@
 // Text: whether bytes are well-formed UTF-8, by a table of byte classes and a table of moves.
+#![tactic(auto)]
+
 pub mod tables;
 
 ghost use Rattle.std.specs.Prelude.{◌≡◌, ◌<◌, ◌≤◌, ◌+◌, ◌-◌, length, take, drop};

@@ -1,17 +1,19 @@
 // Run counts as varints: LEB128 of a u32, as encode_32 and decode_u32_slice of the original.
+#![tactic(auto)]
+
 ghost use Rattle.std.specs.Prelude.{◌≡◌, ◌+◌, ◌*◌, ◌<◌, ◌≤◌, length, get_or};
 ghost use Rattle.varint.specs.Varint.{count_at};
 ghost use Rattle.varint.specs.Promises.{Decodes, Encodes, Sizes};
 
 // A run count, taken apart into its number and its length in bytes; or no count.
-#[derive(Drop)]
+#[derive(Clone, Copy)]
 pub enum Count {
     Number { value: u32, len: usize },
     Bad,
 }
 
 // What came of writing: the bytes written, or no room for them.
-#[derive(Drop)]
+#[derive(Clone, Copy)]
 pub enum Wrote {
     Bytes { len: usize },
     NoRoom,

@@ -1,4 +1,6 @@
 // A reader that keeps the lent block it was opened on: thin functions over those of `block`.
+#![tactic(auto)]
+
 ghost use Rattle.std.specs.Prelude.{◌≡◌};
 ghost use Rattle.block.specs.Reading.{Areas, Batch, areas, opened, read as read_of, remaining, opening_of};
 ghost use Rattle.view.specs.Viewing.{read_block};
@@ -7,21 +9,21 @@ ghost use Rattle.view.specs.Stepwise.{Read, stepwise};
 use block::{Given, Reader};
 
 // A block, and where reading stands in it.
-#[derive(Drop)]
+#[derive(Clone, Copy)]
 pub struct View<'a> {
     pub block: &'a [u8],
     pub reader: Reader,
 }
 
 // What opening answers. Beside a refusal stands a reader that every call refuses.
-#[derive(Drop)]
+#[derive(Clone, Copy)]
 pub struct Viewed<'a> {
     pub number: u8,
     pub view: View<'a>,
 }
 
 // What a read answers: the rows given and, for char, blob and string, the bytes written; or a refusal with the view as it was.
-#[derive(Drop)]
+#[derive(Clone, Copy)]
 pub struct Taken<'a> {
     pub number: u8,
     pub rows: usize,
@@ -30,7 +32,7 @@ pub struct Taken<'a> {
 }
 
 // What asking for the remaining rows answers: the view comes back as it was.
-#[derive(Drop)]
+#[derive(Clone, Copy)]
 pub struct Unread<'a> {
     pub number: u8,
     pub rows: usize,
@@ -122,7 +124,7 @@ impl<'a> View<'a> {
 // ---- one function above them, with plain parameters
 
 // What the two calls answered, one after the other.
-#[derive(Drop)]
+#[derive(Clone, Copy)]
 struct Steps {
     opened: u8,
     given: u8,

@@ -1,5 +1,7 @@
 // The first pass over the rows of a block: it looks at their counts, ends and keys, and adds up their bytes. It asks for the kind before
 // its loops, not in them.
+#![tactic(auto)]
+
 ghost use Rattle.std.specs.Prelude.{Bool, ◌≡◌, ◌+◌, ◌*◌, ◌<◌, ◌≤◌, ◌^◌, length};
 ghost use Rattle.limits.specs.Limits.{MOST_ITEMS, MOST_BYTES};
 ghost use Rattle.encode.specs.Kinds.{blob};

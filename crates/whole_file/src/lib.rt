@@ -1,4 +1,6 @@
 // A file read whole, as the listing programs read one: into room for the longest that they take and a byte more, which tells a longer one.
+#![tactic(auto)]
+
 ghost use Rattle.std.specs.Prelude.{◌≡◌, true, ◌<◌, length};
 ghost use Rattle.limits.specs.Limits.{MOST_INPUT};
 

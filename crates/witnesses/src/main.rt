@@ -1,6 +1,8 @@
 // Builds the lists that meet the bounds of the estimate with equality (estimate_laws/specs/Witnesses), each by one append of a row so many
 // times, and writes a line for each: the encoding, the rows, the builder's estimate, the length that finish answers, the runs recorded and
 // the block. The file stdout has the figures of the theorems.
+#![tactic(auto)]
+
 use builder::{Builder, Created};
 use script::{first, refused, say};
 use show_view::size;

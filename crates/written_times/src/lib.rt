@@ -1,4 +1,6 @@
 // One row written n times, of which it is known that they are within the limits and have room.
+#![tactic(auto)]
+
 ghost use Rattle.std.specs.Prelude.{◌≡◌, cond, ◌+◌, ◌-◌, ◌≤◌, ◌<◌, length, set};
 ghost use Rattle.limits.specs.Limits.{MOST_ROWS, MOST_BYTES, MOST_COUNT};
 ghost use Rattle.plain.specs.Rows.{row_of};
@@ -68,7 +70,7 @@ fn write_row(
 }
 
 // So many of the rows that are left as one step writes, and the numbers with them.
-#[derive(Drop)]
+#[derive(Clone, Copy)]
 struct Part {
     rows: usize,
     counted: Counted,

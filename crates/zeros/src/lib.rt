@@ -1,4 +1,6 @@
 // Zero bytes counted: the flags of rows that are null.
+#![tactic(auto)]
+
 ghost use Rattle.std.specs.Prelude.{◌≡◌, ◌+◌, ◌≤◌, ◌<◌, min, length, take, drop};
 ghost use Rattle.zeros.specs.Zeros.{zero_in, zeros_in};
 

@@ -3,7 +3,7 @@ use lib.IntN.{pos}
 use lib.ListN.{length}
 use mathlib.Core.Path.{◌≡◌}
 use borrow.Author.Rules.{rules}
-use Rattle.printing.specs.Printing.{next_row_lem}
+use Rattle.printing.specs.Printing.{next_row}
 use Rattle.printing.proofs.RowsListed as laws
 use Rattle.printing.proofs.say_next.Statement.{statement}
 use Rattle.printing.proofs.say_next.Tie as tie
@@ -11,7 +11,7 @@ use Rattle.printing.proofs.say_next.Tie as tie
 abbrev start : tie.After-read → tie.Start
 start c = c.before.before.before.before.before.before.before.before
 
-answered : (c : tie.After-read) → let a = (start c).args in c.read.result ≡ next_row_lem a.reader a.block.now (length a.bytes.now)
+answered : (c : tie.After-read) → let a = (start c).args in c.read.result ≡ next_row a.reader a.block.now (length a.bytes.now)
 answered c = let a = (start c).args in laws.next_row a.reader a.block.now (pos 0) 0 0 a.bytes.now c.read.ensures.0
 
 slice-aggregate-read : tie.Need-slice-aggregate-read

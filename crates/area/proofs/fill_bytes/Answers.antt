@@ -1,0 +1,17 @@
+-- `area::fill_bytes` meets its contract. The loop's invariant is `Filling` over bytes, its measure the places that are left. Assumes nothing.
+use native.Mathlib.Omega.{arith}
+use Prim.Native.Nat.{◌-◌}
+use Rattle.area.proofs.Loops as laws
+use Rattle.area.proofs.fill_bytes.Goals as goal
+
+pub loop-i-init : goal.loop-i-init
+loop-i-init c = laws.filling-start _ _ _ _ (omega arith)
+
+pub loop-i-preserved : goal.loop-i-preserved
+loop-i-preserved c = laws.filling_step c.loop-i.invariant (omega arith)
+
+pub shape_of-dst : goal.shape_of-dst
+shape_of-dst c = c.loop-i.invariant.long
+
+pub returns : goal.returns
+returns c = laws.filling-end c.loop-i.invariant (omega arith)

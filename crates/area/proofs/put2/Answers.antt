@@ -1,0 +1,18 @@
+-- `put2` meets its contract: the item's first two bytes are written. Assumes nothing.
+use Prim.Native.Nat.{◌+◌}
+use borrow.Author.Rules.{rules}
+use native.Mathlib.Omega.{arith}
+use Rattle.area.proofs.FirstBytes.{laid, laid-all, laid-room}
+use Rattle.area.proofs.put2.Goals as goal
+
+pub bounds-dst-at-2 : goal.bounds-dst-at-2
+unfolding laid
+bounds-dst-at-2 c = laid-room 1 c.args.item c.args.dst.now c.args.at (c.args.at + 1) (omega arith)
+
+pub shape_of-dst : goal.shape_of-dst
+unfolding laid
+shape_of-dst c = search rules
+
+pub returns : goal.returns
+unfolding laid
+returns c = laid-all 2 c.args.item c.args.dst.now c.args.at (omega arith)

@@ -1,0 +1,31 @@
+-- `Primitive::encode` meets its contract: each arm is what its kind's own function ensures. Assumes nothing.
+use Rattle.encode.specs.declared.Primitive.TheVariants.{Bool as Boolean, I16, I32, I64, Date, Timestamp, TimestampTz, Interval, F64}
+use Rattle.encode.proofs.ByKind.{encode-found}
+use Rattle.encode.proofs.Primitive.encode.Goals as goal
+
+pub returns-in-Bool : goal.returns-in-Bool
+returns-in-Bool c = encode-found Boolean c.in-Bool.is c.ranges.v c.encode.ensures
+
+pub returns-in-I16 : goal.returns-in-I16
+returns-in-I16 c = encode-found I16 c.in-I16.is c.ranges.v c.encode-in-I16.ensures
+
+pub returns-in-I32 : goal.returns-in-I32
+returns-in-I32 c = encode-found I32 c.in-I32.is c.ranges.v c.encode-in-I32.ensures
+
+pub returns-in-I64 : goal.returns-in-I64
+returns-in-I64 c = encode-found I64 c.in-I64.is c.ranges.v c.encode-in-I64.ensures
+
+pub returns-in-Date : goal.returns-in-Date
+returns-in-Date c = encode-found Date c.in-Date.is c.ranges.v c.encode-in-Date.ensures
+
+pub returns-in-Timestamp : goal.returns-in-Timestamp
+returns-in-Timestamp c = encode-found Timestamp c.in-Timestamp.is c.ranges.v c.encode-in-Timestamp.ensures
+
+pub returns-in-TimestampTz : goal.returns-in-TimestampTz
+returns-in-TimestampTz c = encode-found TimestampTz c.in-TimestampTz.is c.ranges.v c.encode-in-TimestampTz.ensures
+
+pub returns-in-Interval : goal.returns-in-Interval
+returns-in-Interval c = encode-found Interval c.in-Interval.is c.ranges.v c.encode-in-Interval.ensures
+
+pub returns-in-F64 : goal.returns-in-F64
+returns-in-F64 c = encode-found F64 c.in-F64.is c.ranges.v c.encode-in-F64.ensures

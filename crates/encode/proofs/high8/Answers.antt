@@ -1,0 +1,10 @@
+-- `high8` meets its contract: the eight bytes, highest first, as two numbers of four. Assumes nothing.
+use borrow.Author.Rules.{rules}
+use Prim.Native.Nat.{◌+◌, ◌*◌}
+use native.Mathlib.Omega.{arith}
+use Rattle.encode.specs.Bytes.{high-first}
+use Rattle.encode.proofs.Cells.{number_read}
+use Rattle.encode.proofs.high8.Goals as goal
+
+pub returns : goal.returns
+returns c = number_read high-first 8 c.args.item (c.quad.result + 4294967296 * c.quad-2.result) (search rules) (omega arith)

@@ -1,0 +1,10 @@
+-- `parts_by::parts` is safe and ends: the room keeps its length, and the loop's measure is the parts left to lay down. Assumes nothing.
+use mathlib.Core.Path.{◌≡◌}
+use lib.ListN.{length}
+use Rattle.parts_by.proofs.parts.Given as goal
+
+abbrev pub invariant-loop-left : goal.invariant-loop-left
+invariant-loop-left l = length l.room ≡ length l.initial.room
+
+abbrev pub decreases-loop-left : goal.decreases-loop-left
+decreases-loop-left l = l.left

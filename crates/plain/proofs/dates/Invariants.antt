@@ -1,0 +1,11 @@
+-- `dates` meets its contract: the law of the loop that stores, at Date. Assumes nothing.
+use Prim.Native.Nat.{◌-◌}
+use Rattle.encode.specs.declared.Primitive.TheVariants.{Date}
+use Rattle.plain.proofs.Items.{Storing}
+use Rattle.plain.proofs.dates.Given as goal
+
+abbrev pub invariant-loop-i : goal.invariant-loop-i
+invariant-loop-i l = Storing Date l.s l.from l.n l.initial.out l.out l.at l.i
+
+abbrev pub decreases-loop-i : goal.decreases-loop-i
+decreases-loop-i l = l.n - l.i

@@ -1,0 +1,7 @@
+-- `end_at` meets its contract: the end of an item is the number at its place among the ends. Assumes nothing.
+use Rattle.plain.specs.Plain.{end_at}
+use Rattle.plain.proofs.end_at.Goals as goal
+
+pub returns : goal.returns
+unfolding end_at
+returns c = c.u32_at.ensures
