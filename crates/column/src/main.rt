@@ -3,31 +3,55 @@
 // column as 20; the rest are the sheet's own numbers.
 #![tactic(auto)]
 
-use limits::refusal;
+ghost use Rattle.std.specs.Prelude.{◌≤◌, length};
 
-// Lists the column of an open file that the second argument names. Of an argument that is missing, or of more than 4,096 bytes, no bytes
-// come, and no bytes name no column.
-fn list(fd: i32) {
+use limits::refusal;
+use std::fs::File;
+use std::os::fd::AsRawFd;
+use std::rt::Env;
+use std::str;
+
+// How many bytes an argument has, which come into the room: of one that is missing, or of more than 4,096 bytes, none.
+fn argument(rt: &HostRuntime, i: usize, text: &mut [u8]) -> usize
+    ensures { result ≤ length text.new }
+{
+    match rt.arg(i, text) {
+        Ok(len) => len,
+        Err(_) => 0,
+    }
+}
+
+// The file of a name, opened. std takes text alone: of other bytes no file is opened.
+fn opened(rt: &HostRuntime, name: &[u8]) -> Option<File> {
+    let Ok(path) = str::from_utf8(name) else {
+        return None;
+    };
+    match File::open(rt, path) {
+        Ok(open) => Some(open),
+        Err(_) => None,
+    }
+}
+
+// Lists the column of an open file that the second argument names. No bytes name no column.
+fn list(rt: &HostRuntime, mut open: File) {
     let mut file = whole_file::room();
-    let n = io::read_full(fd, &mut file);
-    if !whole_file::is_read(fd, n) {
+    let n = io::read_full(open.as_raw_fd(), &mut file);
+    let Ok(true) = whole_file::is_read(&mut open, n) else {
         column_by::refuse(refusal::SHEET);
         return;
-    }
+    };
     let mut text = io::buffer();
-    let len = os::arg(2, &mut text);
+    let len = argument(rt, 2, &mut text);
     column_by::print(&file[..n], &text[..len]);
 }
 
 // A missing argument comes as an empty name, which no file has.
-fn main() {
+fn main(rt: HostRuntime) {
     let mut name = io::buffer();
-    let len = os::arg(1, &mut name);
-    let fd = os::open_read(&name[..len]);
-    if fd < 0 {
+    let len = argument(&rt, 1, &mut name);
+    let Some(open) = opened(&rt, &name[..len]) else {
         column_by::refuse(refusal::SHEET);
         return;
-    }
-    list(fd);
-    libc::close(fd);
+    };
+    list(&rt, open);
 }

@@ -3,10 +3,10 @@
 // 10; the reason goes to standard error.
 #![tactic(auto)]
 
-fn main() {
+fn main(rt: HostRuntime) {
     let mut first = whole_file::room();
-    let n = named_file::read_argument(1, &mut first);
+    let n = named_file::read_argument(&rt, 1, &mut first);
     let mut second = whole_file::room();
-    let m = named_file::read_argument(2, &mut second);
+    let m = named_file::read_argument(&rt, 2, &mut second);
     compare_by::print(&first[..n], &second[..m]);
 }

@@ -2,90 +2,150 @@
 // goes to standard error.
 #![tactic(auto)]
 
+mod reason;
+
+ghost use Rattle.std.specs.Prelude.{IfOk, ◌≤◌, length};
 ghost use Rattle.io.specs.Counts.{IsPrefixLen};
+
+pub use reason::fail;
+use std::env::FillError;
+use std::fs::File;
+use std::io::{Error, Write};
+use std::os::fd::AsRawFd;
+use std::rt::Env;
+use std::str;
+
+// ---- a name
+
+// The bytes of an argument, or why they don't come.
+fn argument(rt: &HostRuntime, i: usize, name: &mut [u8]) -> Result<usize, Error>
+    ensures { IfOk result (λ n. n ≤ length name.new) }
+{
+    match rt.arg(i, name) {
+        Ok(len) => Ok(len),
+        Err(FillError::TooLong) => Err(Error::from_raw_os_error(reason::NAME_TOO_LONG)),
+        Err(FillError::NotPresent) => Err(Error::from_raw_os_error(reason::INVALID)),
+    }
+}
+
+// A name as std takes one, or why there is no such file. std takes text alone: of other bytes no file is read or made.
+fn path_of(name: &[u8]) -> Result<&str, Error> {
+    if 4096 <= name.len() {
+        return Err(Error::from_raw_os_error(reason::NAME_TOO_LONG));
+    }
+    if name.contains(&0) {
+        return Err(Error::from_raw_os_error(reason::INVALID));
+    }
+    match str::from_utf8(name) {
+        Ok(path) => Ok(path),
+        Err(_) => Err(Error::from_raw_os_error(reason::NO_TEXT)),
+    }
+}
 
 // ---- a file read
 
+fn open_read(rt: &HostRuntime, name: &[u8]) -> Result<File, Error> {
+    File::open(rt, path_of(name)?)
+}
+
 // How many bytes of an open file came into the room; none where it can't be read.
-fn read_open(fd: i32, name: &[u8], file: &mut [u8]) -> usize
+fn read_open(mut open: File, name: &[u8], file: &mut [u8]) -> usize
     ensures { IsPrefixLen result file.new }
 {
-    let n = io::read_full(fd, file);
-    if !whole_file::is_read(fd, n) {
-        os::fail(name);
-        return 0;
+    let n = io::read_full(open.as_raw_fd(), file);
+    match whole_file::is_read(&mut open, n) {
+        Ok(true) => n,
+        // A read failed, and the next one didn't: something had only held it up, as a signal does.
+        Ok(false) => {
+            fail(name, Error::from_raw_os_error(reason::INTERRUPTED));
+            0
+        }
+        Err(error) => {
+            fail(name, error);
+            0
+        }
     }
-    n
 }
 
 // The same of a file by its name.
-pub fn read_named(name: &[u8], file: &mut [u8]) -> usize
+pub fn read_named(rt: &HostRuntime, name: &[u8], file: &mut [u8]) -> usize
     ensures { IsPrefixLen result file.new }
 {
-    let fd = os::open_read(name);
-    if fd < 0 {
-        os::fail(name);
-        return 0;
+    match open_read(rt, name) {
+        Ok(open) => read_open(open, name, file),
+        Err(error) => {
+            fail(name, error);
+            0
+        }
     }
-    let n = read_open(fd, name, file);
-    libc::close(fd);
-    n
 }
 
 // The same of the file that an argument names.
-pub fn read_argument(i: usize, file: &mut [u8]) -> usize
+pub fn read_argument(rt: &HostRuntime, i: usize, file: &mut [u8]) -> usize
     ensures { IsPrefixLen result file.new }
 {
     let mut name = io::buffer();
-    let len = os::arg(i, &mut name);
-    if os::errno() != 0 {
-        os::fail(b"file name");
-        return 0;
+    match argument(rt, i, &mut name) {
+        Ok(len) => read_named(rt, &name[..len], file),
+        Err(error) => {
+            fail(b"file name", error);
+            0
+        }
     }
-    read_named(&name[..len], file)
 }
 
 // ---- a file made
 
-// Writes two parts one after the other, and answers whether all of both is written.
-fn write_both(fd: i32, head: &[u8], rest: &[u8]) -> bool {
-    if !io::write_all(fd, head) {
-        return false;
-    }
-    io::write_all(fd, rest)
+fn open_overwrite(rt: &HostRuntime, name: &[u8]) -> Result<File, Error> {
+    File::create(rt, path_of(name)?)
 }
 
-// The same of an open file, which is closed. Some systems say only then that they couldn't keep what was written.
-fn write_open(fd: i32, name: &[u8], head: &[u8], rest: &[u8]) -> bool {
-    if !write_both(fd, head, rest) {
-        os::fail(name);
-        libc::close(fd);
-        return false;
+// Writes two parts one after the other, and has the system keep both.
+fn write_both(open: &mut File, head: &[u8], rest: &[u8]) -> Result<(), Error> {
+    open.write_all(head)?;
+    open.write_all(rest)?;
+    keep(open)
+}
+
+// Has the system keep what was written to a file, since some systems say only then that they couldn't, and a file that std closes says
+// nothing. What keeps nothing, as a pipe, can't be asked that.
+fn keep(open: &File) -> Result<(), Error> {
+    match open.sync_all() {
+        Err(error) if error.raw_os_error() != Some(reason::INVALID) => Err(error),
+        _ => Ok(()),
     }
-    if libc::close(fd) < 0 {
-        os::fail(name);
-        return false;
+}
+
+// The same of an open file, which is closed. What comes back is whether all of both is written.
+fn write_open(mut open: File, name: &[u8], head: &[u8], rest: &[u8]) -> bool {
+    match write_both(&mut open, head, rest) {
+        Ok(()) => true,
+        Err(error) => {
+            fail(name, error);
+            false
+        }
     }
-    true
 }
 
 // The same of a file by its name. One that is there is emptied first, and where a write fails what was written before it stays.
-fn make_named(name: &[u8], head: &[u8], rest: &[u8]) -> bool {
-    let fd = os::open_overwrite(name);
-    if fd < 0 {
-        os::fail(name);
-        return false;
+fn make_named(rt: &HostRuntime, name: &[u8], head: &[u8], rest: &[u8]) -> bool {
+    match open_overwrite(rt, name) {
+        Ok(open) => write_open(open, name, head, rest),
+        Err(error) => {
+            fail(name, error);
+            false
+        }
     }
-    write_open(fd, name, head, rest)
 }
 
 // The same of the file that an argument names.
-pub fn make_argument(i: usize, head: &[u8], rest: &[u8]) -> bool {
+pub fn make_argument(rt: &HostRuntime, i: usize, head: &[u8], rest: &[u8]) -> bool {
     let mut name = io::buffer();
-    let len = os::arg(i, &mut name);
-    if os::errno() != 0 {
-        os::fail(b"file name");
-        return false;
+    match argument(rt, i, &mut name) {
+        Ok(len) => make_named(rt, &name[..len], head, rest),
+        Err(error) => {
+            fail(b"file name", error);
+            false
+        }
     }
-    make_named(&name[..len], head, rest)
 }

@@ -27,6 +27,7 @@ struct Tally {
 }
 
 fn compare_named(
+    rt: &HostRuntime,
     name: &[u8],
     sheet: bool,
     file: &mut [u8],
@@ -35,7 +36,7 @@ fn compare_named(
 ) -> bool
     requires { (MOST_INPUT < length one.old) × (MOST_INPUT < length other.old) }
 {
-    let n = named_file::read_named(name, file);
+    let n = named_file::read_named(rt, name, file);
     if sheet {
         return night_by::compare_sheet(name, &file[..n], one, other);
     }
@@ -43,13 +44,19 @@ fn compare_named(
 }
 
 // The file that a line names.
-fn compare_line(line: &[u8], file: &mut [u8], one: &mut [u8], other: &mut [u8]) -> bool
+fn compare_line(
+    rt: &HostRuntime,
+    line: &[u8],
+    file: &mut [u8],
+    one: &mut [u8],
+    other: &mut [u8],
+) -> bool
     requires { (MOST_INPUT < length one.old) × (MOST_INPUT < length other.old) }
 {
     if night_by::is_sheet(line) {
-        return compare_named(&line[6..], true, file, one, other);
+        return compare_named(rt, &line[6..], true, file, one, other);
     }
-    compare_named(line, false, file, one, other)
+    compare_named(rt, line, false, file, one, other)
 }
 
 // One file more. How far it is is said after each hundred.
@@ -66,28 +73,34 @@ fn counted(tally: Tally, differs: bool) -> Tally {
 }
 
 // The next line of the list.
-fn compare_next(tally: Tally, file: &mut [u8], one: &mut [u8], other: &mut [u8]) -> Tally
+fn compare_next(
+    rt: &HostRuntime,
+    tally: Tally,
+    file: &mut [u8],
+    one: &mut [u8],
+    other: &mut [u8],
+) -> Tally
     requires { (MOST_INPUT < length one.old) × (MOST_INPUT < length other.old) }
 {
     let mut room = night_by::room();
-    let line = night_by::read_line(&mut room);
+    let line = night_by::read_line(rt, &mut room);
     let mut next = tally;
     next.more = line.more;
-    next.failed = line.failed;
-    if line.failed {
-        os::fail(b"list");
+    if let Some(error) = line.failed {
+        named_file::fail(b"list", error);
+        next.failed = true;
         return next;
     }
     if line.len == 0 {
         return next;
     }
     let n = line.len;
-    let differs = compare_line(&room[..n], file, one, other);
+    let differs = compare_line(rt, &room[..n], file, one, other);
     counted(next, differs)
 }
 
 // All lines: no list has more of them than the counter.
-fn compare_all(file: &mut [u8], one: &mut [u8], other: &mut [u8]) -> Tally
+fn compare_all(rt: &HostRuntime, file: &mut [u8], one: &mut [u8], other: &mut [u8]) -> Tally
     requires { (MOST_INPUT < length one.old) × (MOST_INPUT < length other.old) }
 {
     let mut tally = Tally {
@@ -101,17 +114,17 @@ fn compare_all(file: &mut [u8], one: &mut [u8], other: &mut [u8]) -> Tally
         if !tally.more {
             return tally;
         }
-        tally = compare_next(tally, file, one, other);
+        tally = compare_next(rt, tally, file, one, other);
         left -= 1;
     }
     tally
 }
 
-fn main() {
+fn main(rt: HostRuntime) {
     let mut file = whole_file::room();
     let mut one = whole_file::room();
     let mut other = whole_file::room();
-    let tally = compare_all(&mut file, &mut one, &mut other);
+    let tally = compare_all(&rt, &mut file, &mut one, &mut other);
     if tally.failed {
         return;
     }

@@ -2,24 +2,26 @@
 ghost use Rattle.std.specs.Prelude.{◌≡◌, true, ◌≤◌, length};
 ghost use Rattle.io.specs.Counts.{IsPrefixLen};
 
+use std::io::{Error, ErrorKind, Read};
+
 // The most bytes of a line that are kept: `sheet ` and one byte more than the longest name that a file can have. So of a longer line no file
 // is opened by a part of its name.
 const MOST: usize = 4102;
 
-// What a read of one line came to: so many bytes of it, without its end, are in the room; whether there may be a line behind it; whether the
-// list couldn't be read on.
+// What a read of one line came to: so many bytes of it, without its end, are in the room; whether there may be a line behind it; why the list
+// couldn't be read on, if it couldn't.
 #[derive(Clone, Copy)]
 pub struct Line {
     pub len: usize,
     pub more: bool,
-    pub failed: bool,
+    pub failed: Option<Error>,
 }
 
 #[derive(Clone, Copy)]
 enum Got {
     Byte(u8),
     End,
-    Failed,
+    Failed(Error),
 }
 
 pub fn room() -> [u8; MOST]
@@ -28,16 +30,14 @@ pub fn room() -> [u8; MOST]
     [0; MOST]
 }
 
-fn next_byte() -> Got {
+fn next_byte(rt: &HostRuntime) -> Got {
     let mut one = [0u8; 1];
-    let got = libc::read(0, &mut one);
-    if got < 0 {
-        return Got::Failed;
+    let mut input = rt.stdin();
+    match input.read(&mut one) {
+        Ok(0) => Got::End,
+        Ok(_) => Got::Byte(one[0]),
+        Err(error) => Got::Failed(error),
     }
-    if got == 0 {
-        return Got::End;
-    }
-    Got::Byte(one[0])
 }
 
 // The line that ended at what came instead of a byte.
@@ -45,15 +45,15 @@ fn ended(len: usize, got: Got) -> Line
     ensures { result.len ≡ len }
 {
     match got {
-        Got::Failed => Line {
+        Got::Failed(error) => Line {
             len,
             more: false,
-            failed: true,
+            failed: Some(error),
         },
         _ => Line {
             len,
             more: false,
-            failed: false,
+            failed: None,
         },
     }
 }
@@ -71,13 +71,13 @@ fn keep(room: &mut [u8], len: usize, b: u8) -> usize
 }
 
 // Reads up to the end of a line. Bytes that the room doesn't hold are passed over.
-pub fn read_line(room: &mut [u8]) -> Line
+pub fn read_line(rt: &HostRuntime, room: &mut [u8]) -> Line
     ensures { IsPrefixLen result.len room.new }
 {
     let mut len = 0;
     let mut left: usize = 0xffff_ffff_ffff_ffff;
     while 0 < left {
-        let got = next_byte();
+        let got = next_byte(rt);
         let Got::Byte(b) = got else {
             return ended(len, got);
         };
@@ -85,13 +85,13 @@ pub fn read_line(room: &mut [u8]) -> Line
             return Line {
                 len,
                 more: true,
-                failed: false,
+                failed: None,
             };
         }
         len = keep(room, len, b);
         left -= 1;
     }
-    ended(len, Got::Failed)
+    ended(len, Got::Failed(Error::from(ErrorKind::FileTooLarge)))
 }
 
 // Whether a line names a sheet file: `sheet` and a space before the name.

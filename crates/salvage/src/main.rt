@@ -8,23 +8,23 @@
 use salvaging::Salvaged;
 
 // Makes the file that is due, and answers whether it is there: after a refusal none is due.
-fn make(answer: Salvaged, file: &[u8], out: &[u8]) -> bool {
+fn make(rt: &HostRuntime, answer: Salvaged, file: &[u8], out: &[u8]) -> bool {
     if answer.number != 0 {
         return true;
     }
     let head = salvage_by::head_of(file);
     let block = salvage_by::block_made(answer, out);
-    named_file::make_argument(2, head, block)
+    named_file::make_argument(rt, 2, head, block)
 }
 
-fn main() {
+fn main(rt: HostRuntime) {
     let mut file = whole_file::room();
-    let n = named_file::read_argument(1, &mut file);
+    let n = named_file::read_argument(&rt, 1, &mut file);
     let mut firsts = salvage_by::slots();
     let mut lasts = salvage_by::slots();
     let mut out = io::large_buffer();
     let answer = salvage_by::salvage(&file[..n], &mut firsts, &mut lasts, &mut out);
-    if !make(answer, &file[..n], &out) {
+    if !make(&rt, answer, &file[..n], &out) {
         return;
     }
     salvage_by::print(answer, &firsts, &lasts);

@@ -1,0 +1,19 @@
+-- `key_bits` meets its contract: the two's complement of 32 bits is the lowest bits of that of 64. Assumes nothing.
+use mathlib.Core.Path.{ap, ◌∙◌}
+use Prim.Native.Nat.{ℕ, ◌%◌}
+use lib.Dec.{lit≤}
+use native.Mathlib.Omega.{arith}
+use mir.Syntax.{w32, w64}
+use mir.Val.{of_z}
+use mir.Facts.{to_z-of_z}
+use Rattle.encode.proofs.RoundTrip.{lowest}
+use Rattle.emit.proofs.key_bits.Goals as goal
+
+pub overflow_cast-key : goal.overflow_cast-key
+overflow_cast-key c = rw (to_z-of_z c.ranges.key) (record { sfits = omega arith })
+
+pub returns : goal.returns
+returns c =
+    ap (λ (m : ℕ). m % 4294967296)
+    (c.bits_of.ensures ∙ ap (of_z w64) (to_z-of_z (cast-bits-of c) ∙ to_z-of_z c.ranges.key))
+    ∙ lowest w32 (lit≤ tt) c.args.key c.ranges.key

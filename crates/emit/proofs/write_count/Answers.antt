@@ -1,0 +1,21 @@
+-- `write_count` meets its contract: there is room, so the count's spelling is written. Assumes nothing.
+use native.Mathlib.Omega.{arith}
+use Rattle.varint.specs.Varint.{spelling}
+use Rattle.emit.proofs.Writing as laws
+use Rattle.emit.proofs.write_count.Goals as goal
+
+pub returns-in_default : goal.returns-in_default
+returns-in_default c =
+    let all = absurd (laws.laid-never (spelling c.args.value) c.args.out.now c.args.at (omega arith) c.encode_u32-wrote.ensures.0 c.in_default.is) in
+    record { value = all.0; out_after = all.1 }
+
+pub overflow_add-result : goal.overflow_add-result
+overflow_add-result c =
+    let l = laws.laid-length (spelling c.args.value) c.args.out.now c.args.at (omega arith) c.encode_u32-wrote.ensures.0 c.in-Bytes.is in
+    omega arith
+
+pub returns : goal.returns
+returns c =
+    laws.laid-count (spelling c.args.value) c.args.out.now c.args.at (omega arith) c.encode_u32-wrote.ensures.0 c.in
+    let all = -Bytes.is c.encode_u32-wrote.ensures.1 in
+    record { value = all.0; out_after = all.1 }

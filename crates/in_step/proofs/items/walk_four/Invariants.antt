@@ -1,0 +1,11 @@
+-- `in_step::items::walk_four` meets its contract. The loop's invariant is `Tested`, its measure the rows that are left. Assumes nothing.
+use Prim.Native.Nat.{◌-◌}
+use Rattle.matching.specs.Matching.{word_at}
+use Rattle.in_step.proofs.ByItems as laws
+use Rattle.in_step.proofs.items.walk_four.Given as goal
+
+abbrev pub invariant-loop-i : goal.invariant-loop-i
+invariant-loop-i l = laws.Tested (word_at 4 l.a l.b) l.n l.initial.firsts l.initial.lasts l.firsts l.lasts l.mark l.i
+
+abbrev pub decreases-loop-i : goal.decreases-loop-i
+decreases-loop-i l = l.n - l.i

@@ -1,0 +1,8 @@
+-- `nullable::bit_at` meets its contract, by the definition of a bit. Assumes nothing.
+use borrow.Author.Rules.{rules}
+use Rattle.nullable.specs.Nullable.{bit_at}
+use Rattle.nullable.proofs.bit_at.Goals as goal
+
+pub returns : goal.returns
+unfolding bit_at
+returns c = search rules
