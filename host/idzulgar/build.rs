@@ -1,4 +1,4 @@
-//! Links libcapi.a, which `rt staticlib capi` makes: from the folder that IDZULGAR_LIB names, or from the repository's target/.
+//! Links libcapi.a, which `host/build capi` makes: from the folder that IDZULGAR_LIB names, or from the repository's target/.
 use std::env;
 use std::path::PathBuf;
 
@@ -11,7 +11,7 @@ fn main() {
     let library = folder.join("libcapi.a");
     println!("cargo:rerun-if-changed={}", library.display());
     if !library.exists() {
-        panic!("{} isn't there: run `rt staticlib capi` in the repository's root, or set IDZULGAR_LIB", library.display());
+        panic!("{} isn't there: run `host/build capi` in the repository's root, or set IDZULGAR_LIB", library.display());
     }
     println!("cargo:rustc-link-search=native={}", folder.display());
     println!("cargo:rustc-link-lib=static=capi");

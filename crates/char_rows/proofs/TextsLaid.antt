@@ -52,7 +52,8 @@ pub record TextsLaid (w : ℕ) (s : List ℕ) (from n : ℕ) (ends : List ℕ) (
   pub sound : i ≤ n
 
 pub laid-start :
-    (w : ℕ) (s : List ℕ) (from n : ℕ) (ends : List ℕ) (total : ℕ) (bytes : List ℕ) → take n ends ≡ ends_from 0 (map (char_at w s) (places n from)) → total ≡ length (joined (char_at w s) (places n from))
+    (w : ℕ) (s : List ℕ) (from n : ℕ) (ends : List ℕ) (total : ℕ) (bytes : List ℕ) → take n ends ≡ ends_from 0 (map (char_at w s) (places n from)) →
+    total ≡ length (joined (char_at w s) (places n from))
     → TextsLaid w s from n ends total bytes bytes 0 0
 laid-start w s from n ends total bytes e t =
     let z : n - 0 ≡ n = omega arith in

@@ -1,7 +1,6 @@
 -- Plain columns of a fixed kind, item by item: their rows, and what holds at each turn of the walk. Assumes nothing.
-use Prim.Native.Nat.{ℕ, zero, suc, ◌+◌, ◌-◌, ◌*◌, ◌≤◌, ◌<◌, ◌^◌}
-use native.Mathlib.Nat.{zero-add, add-zero, mul-le-mul_right}
-use native.Mathlib.Numerals.{add-one}
+use Prim.Native.Nat.{ℕ, zero, suc, ◌+◌, ◌*◌, ◌≤◌, ◌<◌, ◌^◌}
+use native.Mathlib.Nat.{zero-add, mul-le-mul_right}
 use native.Mathlib.Omega.{arith}
 use mathlib.Core.Bool.{Bool, true, false, not}
 use mathlib.Core.List.{List, [], ◌∷◌, ◌++◌, map, map-append}
@@ -12,25 +11,23 @@ use Rattle.encode.specs.declared.Primitive.{Primitive}
 use Rattle.encode.specs.declared.Kind.{Kind}
 use Rattle.encode.specs.declared.Kind.TheVariants.{Fixed, Char, Blob}
 use Rattle.encode.specs.Kinds.{width_of}
-use Rattle.plain.specs.Rows.{Row, int, same}
-use Rattle.plain.specs.Plain.{places, least_bytes, fixed_at, plain_row, ends_good}
+use Rattle.plain.specs.Rows.{int}
+use Rattle.plain.specs.Plain.{places, least_bytes, fixed_at, plain_row}
 use Rattle.plain.proofs.Places.{places-add, length-places}
-use Rattle.rle.specs.Stepping.{rows}
 use Rattle.rle.specs.Pieces.{steps_in, step_runs}
 use Rattle.dict.specs.Dictionary.{entry_row}
 use Rattle.matching.specs.Matching.{equal_at}
 use Rattle.source.specs.declared.Marks.{Marks}
 use Rattle.source.specs.declared.Marks.TheVariants.{Bare, Bits, Keys}
 use Rattle.source.specs.declared.Source.{Source}
-use Rattle.source.specs.Rows.{shown_by, row_by, steps_of}
+use Rattle.source.specs.Rows.{shown_by, row_by}
 use Rattle.ranges.specs.declared.Mark.{Mark}
 use Rattle.ranges.specs.Recording.{mark, added, firsts_added, lasts_added, Recorded}
 use Rattle.ranges.proofs.Recording.{length-put, recorded-start, recorded-add}
 use Rattle.in_step.specs.declared.Way.{Way}
 use Rattle.in_step.specs.declared.Way.TheVariants.{Items, Runs}
 use Rattle.in_step.specs.Differences.{differences}
-use Rattle.in_step.specs.Walking.{first, rows_walked, items_walked, unequal_by, way_by, way_in, Walks}
-use Rattle.in_step.proofs.Lists.{differences-append, length-differences}
+use Rattle.in_step.specs.Walking.{rows_walked, items_walked, unequal_by, way_by, way_in, Walks}
 
 -- ---- which columns these are
 pub record Bared (s : Source) (p : Primitive) : Type 0 where

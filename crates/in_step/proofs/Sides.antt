@@ -1,5 +1,5 @@
 -- One of two columns that are walked in step: the runs that were taken of it, of the last of which some rows are still to be compared. Assumes nothing.
-use Prim.Native.Nat.{ℕ, zero, suc, ◌+◌, ◌-◌, ◌≤◌, ◌<◌}
+use Prim.Native.Nat.{ℕ, ◌+◌, ◌-◌, ◌≤◌, ◌<◌}
 use native.Mathlib.Omega.{arith}
 use mathlib.Core.Bool.{true}
 use mathlib.Core.List.{List, [], ◌++◌, map, map-append, append-nil, append_assoc}
@@ -10,7 +10,7 @@ use Rattle.plain.specs.Rows.{Row}
 use Rattle.plain.specs.Plain.{ends_good}
 use Rattle.rle.specs.declared.Spot.{Spot}
 use Rattle.rle.specs.declared.Piece.TheVariants.{Rows}
-use Rattle.rle.specs.Pieces.{piece_in, step_runs}
+use Rattle.rle.specs.Pieces.{step_runs}
 use Rattle.rle.proofs.Folds.{map-replicate}
 use Rattle.dict.specs.Dictionary.{entry_row}
 use Rattle.source.specs.declared.Source.{Source}

@@ -1,18 +1,17 @@
 -- What holds at each turn of the walk over two columns. Assumes nothing.
-use Prim.Native.Nat.{ℕ, ◌+◌, ◌-◌, ◌≤◌, ◌<◌, ◌^◌, min}
+use Prim.Native.Nat.{ℕ, ◌+◌, ◌-◌, ◌≤◌, ◌<◌, ◌^◌}
 use native.Mathlib.Omega.{arith}
 use mathlib.Core.Bool.{Bool, false, not}
 use mathlib.Core.List.{List, [], ◌++◌, map}
-use mathlib.Core.Path.{◌≡◌, refl, sym, ap, ◌∙◌}
+use mathlib.Core.Path.{◌≡◌, sym, ap, ◌∙◌}
 use lib.ListN.{length, replicate, length-map}
 use Rattle.encode.specs.declared.Kind.{Kind}
 use Rattle.plain.specs.Rows.{Row, same}
-use Rattle.rle.specs.Pieces.{step_runs}
 use Rattle.dict.specs.Dictionary.{entry_row}
 use Rattle.matching.specs.Matching.{Stored}
 use Rattle.source.specs.declared.Source.{Source}
 use Rattle.source.specs.declared.ShownRun.{ShownRun}
-use Rattle.source.specs.Rows.{row_by, steps_of}
+use Rattle.source.specs.Rows.{row_by}
 use Rattle.ranges.specs.declared.Mark.{Mark}
 use Rattle.ranges.specs.Recording.{mark, added, firsts_added, lasts_added, Recorded}
 use Rattle.ranges.proofs.Recording.{length-put, recorded-start, recorded-add}

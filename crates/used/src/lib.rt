@@ -91,8 +91,19 @@ fn mark(bits: &mut [u8], i: usize)
     bits[k] += 1u8 << shift;
 }
 
+// The first item that reads as entry `slot` does, which is counted from 1 on. A marked one is itself the first of its like.
+pub fn name_of(kind: Kind, n: usize, items: &[u8], firsts: &[u8], slot: usize) -> usize
+    requires { (n ≤ MOST_ITEMS) × (plain_number kind n items.now ≡ 0) × Firsts kind n items.now firsts.now × (0 < slot) × (slot ≤ n) }
+    ensures { (result ≡ index_of (entry_row kind n items.now slot) (plain_rows kind n items.now)) × (result < n) }
+{
+    if nullable::bit_at(firsts, slot - 1) == 1 {
+        return slot - 1;
+    }
+    first_like(kind, n, items, n, items, slot)
+}
+
 // Whether item `i` is not marked yet; it is then.
-fn use_item(bits: &mut [u8], i: usize) -> bool
+pub fn use_item(bits: &mut [u8], i: usize) -> bool
     requires { i < 8 * length bits.old }
     ensures value { result ≡ not (eqb (bit_at bits.old i) 1) }
     ensures bits_len_unchanged { length bits.new ≡ length bits.old }

@@ -1,3 +1,2 @@
 // Steps that proofs by hand share; no code.
 #![tactic(auto)]
-

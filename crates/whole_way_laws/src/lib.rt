@@ -1,3 +1,2 @@
 // Theorems about the definitions; no code.
 #![tactic(auto)]
-

@@ -13,11 +13,10 @@ use Rattle.byte_rows.proofs.put_blobs.Goals as goal
 
 -- ---- the needs, in the order of the code
 pub loop-left-init : goal.loop-left-init
-loop-left-init c =
-    (
-      written.texts-start _ _ _ _ _ _ _ c.args.ends.now c.args.bytes.now c.requires.1,
-      flagged.filled-start _ _ _ _ _ _ c.args.flags.now c.requires.1,
-    )
+loop-left-init c = (
+  written.texts-start _ _ _ _ _ _ _ c.args.ends.now c.args.bytes.now c.requires.1,
+  flagged.filled-start _ _ _ _ _ _ c.args.flags.now c.requires.1,
+)
 
 pub shown_run-run-requires : goal.shown_run-run-requires
 shown_run-run-requires c =
@@ -80,5 +79,8 @@ shape_of-bytes c = written.texts-bytes c.loop-left.invariant.0
 
 pub returns : goal.returns
 returns c =
-    let all = (flagged.filled-end c.loop-left.invariant.1 (omega arith), written.texts-end c.loop-left.invariant.0 (omega arith)) in
-    record { flags_after = all.0; ends_after = all.1.0; bytes_after = all.1.1 }
+    record {
+      flags_after = flagged.filled-end c.loop-left.invariant.1 (omega arith);
+      ends_after = (written.texts-end c.loop-left.invariant.0 (omega arith)).0;
+      bytes_after = (written.texts-end c.loop-left.invariant.0 (omega arith)).1;
+    }

@@ -3,6 +3,4 @@ use Rattle.source.proofs.AtPlace.{not-fixed}
 use Rattle.byte_rows.proofs.put_texts.Goals as goal
 
 pub returns-in-Fixed : goal.returns-in-Fixed
-returns-in-Fixed c =
-    let all = absurd (not-fixed _ c.in-Fixed.is c.requires.6) in
-    record { flags_after = all.0; ends_after = all.1.0; bytes_after = all.1.1 }
+returns-in-Fixed c = absurd (not-fixed _ c.in-Fixed.is c.requires.6)

@@ -6,8 +6,7 @@ use Rattle.emit.proofs.write_count.Goals as goal
 
 pub returns-in_default : goal.returns-in_default
 returns-in_default c =
-    let all = absurd (laws.laid-never (spelling c.args.value) c.args.out.now c.args.at (omega arith) c.encode_u32-wrote.ensures.0 c.in_default.is) in
-    record { value = all.0; out_after = all.1 }
+    absurd (laws.laid-never (spelling c.args.value) c.args.out.now c.args.at (omega arith) c.encode_u32-wrote.ensures.0 c.in_default.is)
 
 pub overflow_add-result : goal.overflow_add-result
 overflow_add-result c =
@@ -16,6 +15,5 @@ overflow_add-result c =
 
 pub returns : goal.returns
 returns c =
-    laws.laid-count (spelling c.args.value) c.args.out.now c.args.at (omega arith) c.encode_u32-wrote.ensures.0 c.in
-    let all = -Bytes.is c.encode_u32-wrote.ensures.1 in
+    let all = laws.laid-count (spelling c.args.value) c.args.out.now c.args.at (omega arith) c.encode_u32-wrote.ensures.0 c.in-Bytes.is c.encode_u32-wrote.ensures.1 in
     record { value = all.0; out_after = all.1 }

@@ -15,8 +15,7 @@ copy-requires c =
 
 pub write_ends-to-requires : goal.write_ends-to-requires
 write_ends-to-requires c =
-    let a = c.args in
-    (
+    let a = c.args in (
       c.requires.1 _ c.in-Blob.is,
       laws.room-first a.out.now a.at (joined (little 4) (take a.n a.ends.now)) (take a.len a.items.now)
           (laws.room_as a.out.now a.at (laws.blob-bytes a.kind a.n a.len a.items.now a.ends.now c.in-Blob.is) c.requires.2),
@@ -30,7 +29,13 @@ copy-requires-in-Blob c =
     (laws.room_as a.out.now a.at (laws.blob-bytes a.kind a.n a.len a.items.now a.ends.now c.in-Blob.is) c.requires.2))
 
 pub overflow_add-result-in-Blob : goal.overflow_add-result-in-Blob
-overflow_add-result-in-Blob c = let r = copy-requires-2 c c.copy-in-Blob.lifetimes in omega arith
+overflow_add-result-in-Blob c =
+    let a = c.args in
+    let r =
+    laws.items-room c.write_ends-to.result a.len a.items.now c.requires.0
+    (laws.room-second a.out.now a.at (joined (little 4) (take a.n a.ends.now)) (take a.len a.items.now) (c.write_ends-to.ensures.value, c.write_ends-to.ensures.out_after)
+    (laws.room_as a.out.now a.at (laws.blob-bytes a.kind a.n a.len a.items.now a.ends.now c.in-Blob.is) c.requires.2)) in
+    omega arith
 
 pub returns-in-Fixed : goal.returns-in-Fixed
 returns-in-Fixed c =

@@ -1,7 +1,6 @@
 -- `in_step::walk_runs` meets its contract. The loop's invariant is `Walking`; its measure is what is left to compare, and of each side what is left to take.
 -- Assumes nothing.
 use native.Mathlib.Omega.{arith}
-use Prim.Native.Nat.{◌-◌}
 use Rattle.in_step.proofs.Sides as sides
 use Rattle.in_step.proofs.Walking as laws
 use Rattle.in_step.proofs.walk_runs.Goals as goal
@@ -14,8 +13,7 @@ loop-left-init c =
 -- ---- the next run of the first side
 pub shown_run-x-requires : goal.shown_run-x-requires
 shown_run-x-requires c =
-    let entry : tie.Start invariant-loop decreases-loop = c in
-    let w = (entry).requires.0 in
+    let w = c.requires.0 in
     let f = c.loop-left.invariant.a-side in
     (w.ready, sides.side-run f (omega arith) (omega arith) w.ready.short, sides.side-good f (omega arith) (omega arith) w)
 
@@ -27,13 +25,13 @@ loop-left-smaller-then-x-eq0 c =
 pub loop-left-preserved-then-x-eq0 : goal.loop-left-preserved-then-x-eq0
 loop-left-preserved-then-x-eq0 c =
     let f = c.loop-left.invariant in
-    laws.with-a _ _ _ _ _ _ _ _ _ _ _ f (sides.side-next f.a-side (omega arith) (omega arith) c.shown_run-x.result c.shown_run-x.ensures.0 c.shown_run-x.ensures.1 c.shown_run-x.ensures.2 c.shown_run-x.ensures.3)
+    let e = c.shown_run-x.ensures in
+    laws.with-a _ _ _ _ _ _ _ _ _ _ _ f (sides.side-next f.a-side (omega arith) (omega arith) c.shown_run-x.result e.0 e.1 e.2 e.3)
 
 -- ---- and of the second
 pub shown_run-y-requires : goal.shown_run-y-requires
 shown_run-y-requires c =
-    let entry : tie.Start invariant-loop decreases-loop = c in
-    let w = (entry).requires.1 in
+    let w = c.requires.1 in
     let f = c.loop-left.invariant.b-side in
     (w.ready, sides.side-run f (omega arith) (omega arith) w.ready.short, sides.side-good f (omega arith) (omega arith) w)
 
@@ -45,21 +43,20 @@ loop-left-smaller-then-y-eq0 c =
 pub loop-left-preserved-then-y-eq0 : goal.loop-left-preserved-then-y-eq0
 loop-left-preserved-then-y-eq0 c =
     let f = c.loop-left.invariant in
-    laws.with-b _ _ _ _ _ _ _ _ _ _ _ f (sides.side-next f.b-side (omega arith) (omega arith) c.shown_run-y.result c.shown_run-y.ensures.0 c.shown_run-y.ensures.1 c.shown_run-y.ensures.2 c.shown_run-y.ensures.3)
+    let e = c.shown_run-y.ensures in
+    laws.with-b _ _ _ _ _ _ _ _ _ _ _ f (sides.side-next f.b-side (omega arith) (omega arith) c.shown_run-y.result e.0 e.1 e.2 e.3)
 
 -- ---- rows of both, as many as are left of the shorter run
 pub same_slot-same-requires : goal.same_slot-same-requires
 same_slot-same-requires c =
-    let entry : tie.Start invariant-loop decreases-loop = c in
-    let p = (entry).requires in
+    let p = c.requires in
     let f = c.loop-left.invariant in
     (laws.a-stored _ _ _ _ _ _ _ _ _ _ _ f p.0, laws.b-stored _ _ _ _ _ _ _ _ _ _ _ f p.1 p.2)
 
 pub add-mark-requires : goal.add-mark-requires
 add-mark-requires c =
-    let entry : tie.Start invariant-loop decreases-loop = c in
     let f = c.loop-left.invariant in
-    (f.recorded.counted, omega (arith, laws.walking-fits _ _ _ _ _ _ _ _ _ _ _ f, c.least-m.ensures, sides.side-few f.a-side, (entry).ranges.n))
+    (f.recorded.counted, omega (arith, laws.walking-fits _ _ _ _ _ _ _ _ _ _ _ f, c.least-m.ensures, sides.side-few f.a-side, c.ranges.n))
 
 pub overflow_sub-x : goal.overflow_sub-x
 overflow_sub-x c =
@@ -81,11 +78,10 @@ loop-left-smaller c =
 
 pub loop-left-preserved : goal.loop-left-preserved
 loop-left-preserved c =
-    let entry : tie.Start invariant-loop decreases-loop = c in
     let f = c.loop-left.invariant in
     laws.walking-step _ _ _ _ _ _ _ _ _ _ _ f (omega (arith, c.least-m.ensures)) (omega (arith, c.least-m.ensures)) (omega (arith, c.least-m.ensures))
-    (laws.items-told _ _ _ _ _ _ _ _ _ _ _ f (entry).requires.2 c.same_slot-same.ensures)
-    (omega (arith, laws.walking-fits _ _ _ _ _ _ _ _ _ _ _ f, c.least-m.ensures, sides.side-few f.a-side, (entry).ranges.n))
+    (laws.items-told _ _ _ _ _ _ _ _ _ _ _ f c.requires.2 c.same_slot-same.ensures)
+    (omega (arith, laws.walking-fits _ _ _ _ _ _ _ _ _ _ _ f, c.least-m.ensures, sides.side-few f.a-side, c.ranges.n))
     c.add-mark.ensures.value c.add-mark.ensures.firsts_after c.add-mark.ensures.lasts_after
 
 pub shape_of-firsts : goal.shape_of-firsts

@@ -16,8 +16,7 @@ loop-left-init c =
 -- ---- the next run
 pub shown_run-x-requires : goal.shown_run-x-requires
 shown_run-x-requires c =
-    let entry : tie.Start invariant-loop decreases-loop = c in
-    ahead.ahead-asks c.loop-left.invariant.ahead (omega arith) (omega arith) c.keys_by-source.ensures (entry).requires.0 []
+    ahead.ahead-asks c.loop-left.invariant.ahead (omega arith) (omega arith) c.keys_by-source.ensures c.requires.0 []
 
 pub loop-left-smaller-then-x-eq0 : goal.loop-left-smaller-then-x-eq0
 loop-left-smaller-then-x-eq0 c =
@@ -34,14 +33,12 @@ overflow_sub-x c = omega (arith, c.loop-left.invariant.ahead.there (omega arith)
 
 pub lost_at-lost-requires : goal.lost_at-lost-requires
 lost_at-lost-requires c =
-    let entry : tie.Start invariant-loop decreases-loop = c in
-    ahead.key-there c.loop-left.invariant.ahead (entry).requires.0 (omega arith)
+    ahead.key-there c.loop-left.invariant.ahead c.requires.0 (omega arith)
 
 pub add-mark-requires : goal.add-mark-requires
 add-mark-requires c =
-    let entry : tie.Start invariant-loop decreases-loop = c in
     let f = c.loop-left.invariant in
-    (f.recorded.counted, omega (arith, laws.marking-fits _ _ _ _ _ _ _ f, f.ahead.some, (entry).ranges.n))
+    (f.recorded.counted, omega (arith, laws.marking-fits _ _ _ _ _ _ _ f, f.ahead.some, c.ranges.n))
 
 pub overflow_sub-left : goal.overflow_sub-left
 overflow_sub-left c =
@@ -53,9 +50,8 @@ loop-left-smaller c =
 
 pub loop-left-preserved : goal.loop-left-preserved
 loop-left-preserved c =
-    let entry : tie.Start invariant-loop decreases-loop = c in
     let f = c.loop-left.invariant in
-    laws.marking_step _ _ _ _ _ _ _ f c.lost_at-lost.ensures (omega (arith, laws.marking-fits _ _ _ _ _ _ _ f, f.ahead.some, (entry).ranges.n)) (c.add-mark.ensures.value, (c.add-mark.ensures.firsts_after, c.add-mark.ensures.lasts_after))
+    laws.marking_step _ _ _ _ _ _ _ f c.lost_at-lost.ensures (omega (arith, laws.marking-fits _ _ _ _ _ _ _ f, f.ahead.some, c.ranges.n)) (c.add-mark.ensures.value, (c.add-mark.ensures.firsts_after, c.add-mark.ensures.lasts_after))
 
 -- ---- the end
 pub end-ended-requires : goal.end-ended-requires

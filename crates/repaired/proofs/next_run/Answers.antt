@@ -2,11 +2,10 @@
 use native.Mathlib.Omega.{arith}
 use Prim.Native.Nat.{◌-◌, ◌<◌}
 use mathlib.Core.List.{[]}
-use mathlib.Core.Logic.{⊎_elim}
 use mathlib.Core.Path.{refl}
-use borrow.Author.Tests.{not-false}
 use Rattle.repaired.proofs.Ahead as ahead
 use Rattle.repaired.proofs.Merging as laws
+use Rattle.repaired.proofs.next_run.Goals.{then-rows-eq0, else-rows-eq0+else-not-same_entry}
 use Rattle.repaired.proofs.next_run.Goals as goal
 
 pub loop-rows-init : goal.loop-rows-init
@@ -67,11 +66,13 @@ loop-rows-smaller c =
 
 pub loop-rows-preserved : goal.loop-rows-preserved
 loop-rows-preserved c =
-    let joins : laws.Joins _ _ _ _ _ _ _ _ c.loop-rows.invariant c.if-rows-eq0.slot = let f = c.loop-rows.invariant in
-    ⊎_elim
-    (λ w. laws.joins-first _ _ _ _ _ _ _ _ f c.slot_in-shown.ensures.0 c.slot_in-shown.ensures.1 w.0.taken w.1)
-    (λ w. laws.joins-same _ _ _ _ _ _ _ _ f c.slot_in-shown.ensures.0 w.1.ensures (not-false _ w.2.left) w.3)
-    c.if-rows-eq0.branch in
+    let f = c.loop-rows.invariant in
+    let joins : laws.Joins _ _ _ _ _ _ _ _ f c.if-rows-eq0.slot =
+        elim c.if-rows-eq0.branch
+        [ then-rows-eq0 w ↦
+            laws.joins-first _ _ _ _ _ _ _ _ f c.slot_in-shown.ensures.0 c.slot_in-shown.ensures.1 w.if-rows-eq0.true w.slot-is
+        | else-rows-eq0+else-not-same_entry w ↦
+            laws.joins-same _ _ _ _ _ _ _ _ f c.slot_in-shown.ensures.0 w.same_entry.ensures w.if-not-same_entry.false w.slot-is ] in
     laws.merging-take _ _ _ _ _ _ _ _ c.loop-rows.invariant (joins) c.least-m.result (omega (arith, c.least-m.ensures)) (omega (arith, c.least-m.ensures, c.least-most.ensures)) (omega (arith, c.least-m.ensures, c.least-most.ensures))
 
 pub returns : goal.returns

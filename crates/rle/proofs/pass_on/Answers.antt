@@ -62,8 +62,7 @@ loop-left-smaller c =
 pub loop-left-preserved : goal.loop-left-preserved
 loop-left-preserved c =
     let inside : c.loop-left.run + c.pass-short.result.runs ≤ c.args.runs = grouped-inside c.loop-left.invariant.0 (omega arith) c.pass-short.ensures in
-    let stop-within : c.loop-left.run + c.pass-short.result.runs + c.least.result ≤ c.args.runs = omega (arith, c.least.ensures, inside) in
-    (
+    let stop-within : c.loop-left.run + c.pass-short.result.runs + c.least.result ≤ c.args.runs = omega (arith, c.least.ensures, inside) in (
       part-on c.loop-left.invariant.0 (omega arith) c.pass-short.ensures (stop-within) c.pass_runs-gone.ensures c.in-To.is (omega arith),
       omega (arith, c.in-To.known_told-1-own.given),
       c.next_few-most.ensures,

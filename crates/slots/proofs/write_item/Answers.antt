@@ -30,9 +30,23 @@ put_flag-requires c =
 pub returns-then-flagged : goal.returns-then-flagged
 returns-then-flagged c =
     let a = c.args in
-    record { after = row_put a.kind a.present a.value a.item.now a.items.now a.at c.ranges.value c.put_item.ensures; ends_after = c.put_end.ensures; flags_after = flag-found a.kind a.present a.value a.item.now a.i a.flags.now a.flagged c.if-flagged.true c.put_flag.ensures; lens_after = len-found a.kind a.present a.value a.item.now a.i a.lens.now c.given_len.result c.given_len.ensures c.put_len.ensures }
+    record {
+      after = row_put a.kind a.present a.value a.item.now a.items.now a.at c.ranges.value c.put_item.ensures;
+      ends_after = c.put_end.ensures;
+      flags_after =
+          flag-found a.kind a.present a.value a.item.now a.i a.flags.now a.flagged c.if-flagged.true c.put_flag.ensures;
+      lens_after =
+          len-found a.kind a.present a.value a.item.now a.i a.lens.now c.given_len.result c.given_len.ensures c.put_len.ensures;
+    }
 
 pub returns-else-flagged : goal.returns-else-flagged
 returns-else-flagged c =
     let a = c.args in
-    record { after = row_put a.kind a.present a.value a.item.now a.items.now a.at c.ranges.value c.put_item.ensures; ends_after = c.put_end.ensures; flags_after = flag-kept a.kind a.present a.value a.item.now a.i a.flags.now a.flagged c.if-flagged.false; lens_after = len-found a.kind a.present a.value a.item.now a.i a.lens.now c.given_len.result c.given_len.ensures c.put_len.ensures }
+    record {
+      after = row_put a.kind a.present a.value a.item.now a.items.now a.at c.ranges.value c.put_item.ensures;
+      ends_after = c.put_end.ensures;
+      flags_after =
+          flag-kept a.kind a.present a.value a.item.now a.i a.flags.now a.flagged c.if-flagged.false;
+      lens_after =
+          len-found a.kind a.present a.value a.item.now a.i a.lens.now c.given_len.result c.given_len.ensures c.put_len.ensures;
+    }

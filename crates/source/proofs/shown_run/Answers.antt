@@ -26,8 +26,7 @@ shown_at-slot-requires c =
 
 pub returns : goal.returns
 returns c =
-    let good : let a = c.args in good_by a.s a.marks.now a.items.now a.at.run ≡ true = pieces.good-shows _ _ c.requires.2 c.take_piece-piece.ensures c.in-Rows.is (omega arith) in
-    (
+    let good : let a = c.args in good_by a.s a.marks.now a.items.now a.at.run ≡ true = pieces.good-shows _ _ c.requires.2 c.take_piece-piece.ensures c.in-Rows.is (omega arith) in (
       sym c.take_piece-piece.ensures ∙ c.in-Rows.is,
       (λ h. c.shown_at-slot.ensures.0),
       c.shown_at-slot.ensures.1,

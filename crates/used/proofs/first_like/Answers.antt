@@ -2,6 +2,7 @@
 use mathlib.Core.Path.{◌∙◌}
 use native.Mathlib.Omega.{arith}
 use borrow.Author.Rules.{rules}
+use mir.Syntax.{w64}
 use mir.Facts.{to_z-of_z}
 use Rattle.used.proofs.Cuts.{item-cut}
 use Rattle.used.proofs.Finding.{values-there, value_there, value_found, chars-there, char-found, blobs-there, blobs-good, blob-found}
@@ -20,7 +21,7 @@ pub returns-in-Fixed : goal.returns-in-Fixed
 returns-in-Fixed c =
     let a = c.args in
     value_found c.in-Fixed.is a.n a.items.now a.m a.others.now a.slot c.requires.4
-    (to_z-of_z (search rules) ∙ c.value_at.ensures) c.find_fixed.ensures
+    (to_z-of_z {w = w64} (record { sfits = c.value_at.type_inv }) ∙ c.value_at.ensures) c.find_fixed.ensures
 
 -- ---- by the bytes of a char item, of a blob item
 pub char_at-want-requires : goal.char_at-want-requires

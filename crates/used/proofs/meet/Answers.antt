@@ -22,6 +22,12 @@ pub returns : goal.returns
 returns c =
     let a = c.args in
     let p = c.requires in
-    let u = (c.use_item.ensures.bits_len_unchanged, c.use_item.ensures.by_index) in
-    record { value = (λ es f. shown-named a.kind a.n a.items.now a.slot p.4 p.5 f c.first_like-name.ensures c.use_item-2.ensures.value (c.use_item-2.ensures.bits_len_unchanged, c.use_item-2.ensures.by_index)
-          (met-more a.kind a.n a.items.now a.slot p.4 f.those-met u)); bits_len_unchanged = c.use_item-2.ensures.bits_len_unchanged; met_len_unchanged = u.0 }
+    let u = c.use_item.ensures in
+    let v = c.use_item-2.ensures in
+    record {
+      value =
+          (λ es f. shown-named a.kind a.n a.items.now a.slot p.4 p.5 f c.first_like-name.ensures v.value (v.bits_len_unchanged, v.by_index)
+          (met-more a.kind a.n a.items.now a.slot p.4 f.those-met (u.bits_len_unchanged, u.by_index)));
+      bits_len_unchanged = v.bits_len_unchanged;
+      met_len_unchanged = u.bits_len_unchanged;
+    }

@@ -14,13 +14,15 @@ few_zeros-requires c = let f = laws.some-few c.few-some.ensures in (omega (arith
 pub overflow_add-total : goal.overflow_add-total
 overflow_add-total c =
     let counted : let l = c.loop-at in
-    laws.Counting c.args.s.now 0 c.args.n (l.total + c.wide-total.result) (l.at + c.few-some.result) = laws.counting-first c.loop-at.invariant (laws.some-few c.few-some.ensures).within (omega arith) (c.wide-total.ensures ∙ c.few_zeros.ensures) in
+    laws.Counting c.args.s.now 0 c.args.n (l.total + c.wide-total.result) (l.at + c.few-some.result) =
+    laws.counting-first c.loop-at.invariant (laws.some-few c.few-some.ensures).within (omega arith) (c.wide-total.ensures ∙ c.few_zeros.ensures) in
     let g = counted in record { fits = omega (arith, g.few, g.sound) }
 
 pub overflow_add-at : goal.overflow_add-at
 overflow_add-at c =
     let counted : let l = c.loop-at in
-    laws.Counting c.args.s.now 0 c.args.n (l.total + c.wide-total.result) (l.at + c.few-some.result) = laws.counting-first c.loop-at.invariant (laws.some-few c.few-some.ensures).within (omega arith) (c.wide-total.ensures ∙ c.few_zeros.ensures) in
+    laws.Counting c.args.s.now 0 c.args.n (l.total + c.wide-total.result) (l.at + c.few-some.result) =
+    laws.counting-first c.loop-at.invariant (laws.some-few c.few-some.ensures).within (omega arith) (c.wide-total.ensures ∙ c.few_zeros.ensures) in
     record { fits = omega (arith, (counted).sound) }
 
 pub loop-at-smaller : goal.loop-at-smaller
@@ -29,7 +31,8 @@ loop-at-smaller c = let f = laws.some-few c.few-some.ensures in let z = f.any (o
 pub loop-at-preserved : goal.loop-at-preserved
 loop-at-preserved c =
     let counted : let l = c.loop-at in
-    laws.Counting c.args.s.now 0 c.args.n (l.total + c.wide-total.result) (l.at + c.few-some.result) = laws.counting-first c.loop-at.invariant (laws.some-few c.few-some.ensures).within (omega arith) (c.wide-total.ensures ∙ c.few_zeros.ensures) in
+    laws.Counting c.args.s.now 0 c.args.n (l.total + c.wide-total.result) (l.at + c.few-some.result) =
+    laws.counting-first c.loop-at.invariant (laws.some-few c.few-some.ensures).within (omega arith) (c.wide-total.ensures ∙ c.few_zeros.ensures) in
     counted
 
 pub returns : goal.returns

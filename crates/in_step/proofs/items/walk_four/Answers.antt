@@ -1,6 +1,5 @@
 -- `in_step::items::walk_four` meets its contract. The loop's invariant is `Tested`, its measure the rows that are left. Assumes nothing.
 use native.Mathlib.Omega.{arith}
-use Prim.Native.Nat.{◌-◌}
 use Rattle.in_step.proofs.ByItems as laws
 use Rattle.in_step.proofs.items.walk_four.Goals as goal
 

@@ -2,17 +2,17 @@
 -- values have. Assumes nothing.
 use Prim.Native.Nat.{ℕ, ◌*◌, ◌≤◌, ◌<◌}
 use mathlib.Core.Path.{◌≡◌, ap, sym, ◌∙◌}
+use mathlib.Core.Logic.{⊎_elim}
 use native.Mathlib.Omega.{arith}
 use lib.Dec.{lit<}
 use lib.ListN.{length, get_or}
 use Rattle.limits.specs.Limits.{MOST_ITEMS}
 use Rattle.encode.specs.Kinds.{width_of}
 use Rattle.encode.specs.declared.Primitive.TheVariants.{Bool as Boolean}
-use Rattle.encode.proofs.Shapes.{wide_as, four-shaped, eight-shaped}
+use Rattle.encode.proofs.Shapes.{wide_as}
 use Rattle.matching.specs.Matching.{equal_at, word_at}
 use Rattle.matching.proofs.Tests.{room-found, by-truth, by_word}
 use Rattle.in_step.proofs.ByItems as laws
-use borrow.Enum.Refused.{opened}
 use Rattle.in_step.proofs.items.walk_items.Goals as goal
 
 -- ---- each arm: a bool's byte, and two, four or eight bytes in either order
@@ -42,7 +42,7 @@ walk_four-requires c =
     → (a.n ≤ MOST_ITEMS) × (a.n * w ≤ length a.a.now) × (a.n * w ≤ length a.b.now) = λ w e. let a = c.args in
     let l = wide w e in
     (c.requires.0, room-found a.p a.n (length a.a.now) w l c.requires.1, room-found a.p a.n (length a.b.now) w l c.requires.2) in
-    asked 4 (four-shaped c.shape-shape.result (opened c.in-Low4.in-Low4-own.keys3))
+    asked 4 (⊎_elim (λ e. ap wide_as e) (λ e. ap wide_as e) c.in-Low4.is)
 
 pub walk_eight-requires : goal.walk_eight-requires
 walk_eight-requires c =
@@ -51,7 +51,7 @@ walk_eight-requires c =
     → (a.n ≤ MOST_ITEMS) × (a.n * w ≤ length a.a.now) × (a.n * w ≤ length a.b.now) = λ w e. let a = c.args in
     let l = wide w e in
     (c.requires.0, room-found a.p a.n (length a.a.now) w l c.requires.1, room-found a.p a.n (length a.b.now) w l c.requires.2) in
-    asked 8 (eight-shaped c.shape-shape.result (opened c.in-Low8.in-Low8-own.keys4))
+    asked 8 (⊎_elim (λ e. ap wide_as e) (λ e. ap wide_as e) c.in-Low8.is)
 
 pub returns-in-Bool : goal.returns-in-Bool
 returns-in-Bool c =
@@ -80,7 +80,7 @@ returns-in-Low4 c =
     let fb : (j : ℕ) → get_or a.b.now j 0 < 256 = λ j. omega (arith, c.type_inv.b j) in
     by_word a.p a.a.now a.b.now fa fb c.requires.1 c.requires.2 w (wide w e) l in
     let a = c.args in
-    laws.tested-rows a.p a.a.now a.b.now (word_at 4 a.a.now a.b.now) (found 4 (four-shaped c.shape-shape.result (opened c.in-Low4.in-Low4-own.keys3)) (lit< tt)) c.walk_four.ensures
+    laws.tested-rows a.p a.a.now a.b.now (word_at 4 a.a.now a.b.now) (found 4 (⊎_elim (λ e. ap wide_as e) (λ e. ap wide_as e) c.in-Low4.is) (lit< tt)) c.walk_four.ensures
 
 pub returns-in-Low8 : goal.returns-in-Low8
 returns-in-Low8 c =
@@ -91,4 +91,4 @@ returns-in-Low8 c =
     let fb : (j : ℕ) → get_or a.b.now j 0 < 256 = λ j. omega (arith, c.type_inv.b j) in
     by_word a.p a.a.now a.b.now fa fb c.requires.1 c.requires.2 w (wide w e) l in
     let a = c.args in
-    laws.tested-rows a.p a.a.now a.b.now (word_at 8 a.a.now a.b.now) (found 8 (eight-shaped c.shape-shape.result (opened c.in-Low8.in-Low8-own.keys4)) (lit< tt)) c.walk_eight.ensures
+    laws.tested-rows a.p a.a.now a.b.now (word_at 8 a.a.now a.b.now) (found 8 (⊎_elim (λ e. ap wide_as e) (λ e. ap wide_as e) c.in-Low8.is) (lit< tt)) c.walk_eight.ensures

@@ -79,10 +79,11 @@ loop-i-preserved c =
     let a = c.args in
     let g = known in
     elim c.if-l-len.branch [
-      then-l-len+else-same_as w ↦
-        looking-step c.loop-i.invariant g.inside (alike-good g w.if-l-len.true 0) (sym (alike_same g w.if-l-len.true w.same_as.ensures) ∙ w.if-same_as.false)
-    | else-l-len+else-w-l w ↦
-        looking-step c.loop-i.invariant g.inside (le-ltb a.w (get_or a.lens.now c.loop-i.i 0) w.if-w-l.false) (unlike-same g w.if-l-len.false w.if-w-l.false) ]
+      | then-l-len+else-same_as w ↦
+          looking-step c.loop-i.invariant g.inside (alike-good g w.if-l-len.true 0) (sym (alike_same g w.if-l-len.true w.same_as.ensures) ∙ w.if-same_as.false)
+      | else-l-len+else-w-l w ↦
+          looking-step c.loop-i.invariant g.inside (le-ltb a.w (get_or a.lens.now c.loop-i.i 0) w.if-w-l.false) (unlike-same g w.if-l-len.false w.if-w-l.false)
+    ]
 
 pub returns : goal.returns
 returns c = looking-end c.loop-i.invariant (omega arith)

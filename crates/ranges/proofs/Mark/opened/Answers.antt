@@ -7,5 +7,6 @@ pub returns : goal.returns
 returns c =
     let a = c.args in
     elim c.if-self.branch [
-      then-self w ↦ laws.goes_on a.self a.n w.if-self.true w.result-is
-    | else-self w ↦ laws.begins a.self a.n w.if-self.false w.result-is ]
+      | then-self w ↦ laws.goes_on a.self a.n w.if-self.true w.result-is
+      | else-self w ↦ laws.begins a.self a.n w.if-self.false w.result-is
+    ]

@@ -1,0 +1,9 @@
+-- `repaired_keys::write_keys` meets its contract. The loop's invariant is `Keys`, its measure the rows that are left. Assumes nothing.
+use Rattle.repaired_keys.proofs.AmongWritten as laws
+use Rattle.repaired_keys.proofs.write_keys.Given as goal
+
+abbrev pub invariant-loop-left : goal.invariant-loop-left
+invariant-loop-left l = laws.Keys l.kind l.entries l.runs l.counts l.keys l.items l.n l.initial.out l.at l.out l.to l.left l.x
+
+abbrev pub decreases-loop-left : goal.decreases-loop-left
+decreases-loop-left l = l.left
