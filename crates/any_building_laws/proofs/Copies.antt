@@ -4,6 +4,7 @@ use Prim.Native.Nat.{ℕ, zero, suc}
 use mathlib.Core.Bool.{true, cond, not}
 use mathlib.Core.List.{List, [], ◌∷◌, ◌++◌, append_assoc, append-nil}
 use mathlib.Core.Path.{◌≡◌, sym, subst}
+use lib.IntN.{ℤ}
 use lib.ListN.{replicate}
 use Rattle.limits.specs.Refusals.{ITEM, LIMIT, ROOM}
 use Rattle.encode.specs.declared.Kind.{Kind}
@@ -42,8 +43,9 @@ module _ (k : Kind) (e : Encoding) (x : Row) (P : List Row → Stage → Type 0)
   behind-itself zero xs s h = subst (λ (l : List Row). P l s) (sym (append-nil (xs ++ (x ∷ [])))) h
   behind-itself (suc n) xs s h =
       let ys : List Row = xs ++ (x ∷ []) in
-      rw (once-more-told k e xs x s (counts ys s h), ← append_assoc ys (x ∷ []) (replicate n x), ← same-key-again e xs x)
-      (behind-itself n ys (next_stage k e ys x s) (one_more_lem ys s h))
+      rw (once-more-told k e xs x s (counts ys s h), ← append_assoc ys (x ∷ []) (replicate n x))
+      (subst (λ (key : ℤ). P (ys ++ (x ∷ []) ++ replicate n x) (times_more k e x key n (next_stage k e ys x s))) (same-key-again e xs x)
+      (behind-itself n ys (next_stage k e ys x s) (one_more_lem ys s h)))
 
   n-times : (n : ℕ) (rows : List Row) (r : Counted) (a : Lent) → P rows (stage r a) → P (rows ++ replicate n x) (copies_by k e rows n x r a)
   unfolding times one_more

@@ -9,7 +9,7 @@ use Rattle.plain.specs.Plain.{all_of, least_bytes}
 use Rattle.nullable.specs.Nullable.{bit_at, presence}
 use Rattle.rle.specs.declared.Spot.{Spot}
 use Rattle.rle.specs.declared.Piece.{Piece}
-use Rattle.rle.specs.declared.Piece.TheVariants.{Rows as Some, Stuck as NoPiece}
+use Rattle.rle.specs.declared.Piece.TheVariants.{Rows as SomeRows, Stuck as NoPiece}
 use Rattle.rle.specs.Stepping.{Steps, stuck, rows}
 use Rattle.rle.specs.Pieces.{piece_in, steps_in, Fine, step_runs}
 use Rattle.dict.specs.Dictionary.{slot_at, entry_row, entry_good}
@@ -76,7 +76,7 @@ sees_by s marks i = ltb i (most_by s.marks s.items s.runs) && leb (seen_by s.mar
 -- the first look at some rows of place i, and at their item; at none, where there are no rows
 unfoldable pub look_by : Source → List ℕ → ℕ → Piece → Look
 look_by s marks i NoPiece = Wrong
-look_by s marks i (Some k t) = cond (eqb k 0) (Item 0 k t) (cond (sees_by s marks i) (Item (seen_by s.marks marks i) k t) Wrong)
+look_by s marks i (SomeRows k t) = cond (eqb k 0) (Item 0 k t) (cond (sees_by s marks i) (Item (seen_by s.marks marks i) k t) Wrong)
 
 -- the parts are long enough for their items, bits and keys
 unfoldable pub MarkBytes : Marks → ℕ → ℕ → ℕ → Type 0
@@ -126,7 +126,7 @@ weighed_by p f (rows is t) = cond (all_of p is) (Total (capped (sum_of f is)) t)
 -- some rows of run i
 unfoldable pub Good : (ℕ → Bool) → ℕ → Piece → Type 0
 Good good i NoPiece = ⊥
-Good good i (Some k t) = 0 < k → good i ≡ true
+Good good i (SomeRows k t) = 0 < k → good i ≡ true
 
 pub record Writes (good : ℕ → Bool) (steps : Steps) (n room : ℕ) : Type 0 where
   pub fine : Fine steps

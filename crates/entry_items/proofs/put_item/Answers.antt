@@ -23,8 +23,8 @@ overflow_add-result c =
 pub returns-in-Fixed : goal.returns-in-Fixed
 returns-in-Fixed c =
     let all =
-        laws.fixed-put _ _ _ _ _ _ c.in-Fixed.is c.width.ensures c.requires.1
-       c.value_at.result (search rules) c.value_at.ensures c.encode.ensures c.put.ensures  c.width-in-Fixed.ensures in
+    laws.fixed-put _ _ _ _ _ _ c.in-Fixed.is c.width.ensures c.requires.1
+    c.value_at.result (search rules) c.value_at.ensures c.encode.ensures c.put.ensures c.width-in-Fixed.ensures in
     record { value = all.0; out_after = all.1 }
 
 -- ---- char
@@ -36,7 +36,7 @@ put_char-requires c =
 pub returns-in-Char : goal.returns-in-Char
 returns-in-Char c =
     let all =
-        laws.char-written _ _ _ _ _ _ c.in-Char.is c.put_char.ensures in
+    laws.char-written _ _ _ _ _ _ c.in-Char.is c.put_char.ensures in
     record { value = all.0; out_after = all.1 }
 
 -- ---- blob and string
@@ -50,5 +50,5 @@ copy-requires c =
 pub returns-in-Blob : goal.returns-in-Blob
 returns-in-Blob c =
     let all =
-        laws.blob-put _ _ _ _ _ _ c.in-Blob.is c.blob_of-text.result c.blob_of-text.ensures c.copy.ensures in
+    laws.blob-put _ _ _ _ _ _ c.in-Blob.is c.blob_of-text.result c.blob_of-text.ensures c.copy.ensures in
     record { value = all.0; out_after = all.1 }

@@ -23,6 +23,10 @@ unfolding part_in
 returns c =
     let a = c.args in
     let few = alone-few a.parts a.from a.block.now a.n c.requires.0 c.requires.1.coded in
-    record { value = (c.put.ensures.value.0 ∙ chars-sum a.parts a.from a.block.now a.n c.requires.0 a.w c.requires.1, omega (arith, c.put.ensures.value.1)); ends_after =
-      chars-ends a.parts a.from a.block.now a.n c.requires.0 a.w c.requires.1 a.ends.now c.put.ensures.ends_after; bytes_after =
-        chars-joined a.parts a.from a.block.now a.n c.requires.0 a.w c.requires.1 a.bytes.now c.put.ensures.bytes_after }
+    record {
+      value = (c.put.ensures.value.0 ∙ chars-sum a.parts a.from a.block.now a.n c.requires.0 a.w c.requires.1, omega (arith, c.put.ensures.value.1));
+      ends_after =
+          chars-ends a.parts a.from a.block.now a.n c.requires.0 a.w c.requires.1 a.ends.now c.put.ensures.ends_after;
+      bytes_after =
+          chars-joined a.parts a.from a.block.now a.n c.requires.0 a.w c.requires.1 a.bytes.now c.put.ensures.bytes_after;
+    }

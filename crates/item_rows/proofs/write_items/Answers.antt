@@ -29,13 +29,19 @@ pub returns-in-Bare : goal.returns-in-Bare
 unfolding part_in
 returns-in-Bare c =
     let a = c.args in
-    record { values_after = bare-runs a.parts a.from a.block.now a.n c.requires.0 c.requires.2 a.p c.requires.1 c.in-Bare.is a.values.now _
-          c.values.ensures; flags_after = c.write_flags.ensures }
+    record {
+      values_after = bare-runs a.parts a.from a.block.now a.n c.requires.0 c.requires.2 a.p c.requires.1 c.in-Bare.is a.values.now _
+          c.values.ensures;
+      flags_after = c.write_flags.ensures;
+    }
 
 -- src/lib.rt:21:1
 pub returns : goal.returns
 unfolding part_in
 returns c =
     let a = c.args in
-    record { values_after = blanked-runs a.parts a.from a.block.now a.n c.requires.0 c.requires.2 a.p c.requires.1 a.values.now _ _ a.flags.now _
-          c.requires.3 c.requires.4 c.values.ensures c.write_flags.ensures c.blank.ensures; flags_after = c.write_flags.ensures }
+    record {
+      values_after = blanked-runs a.parts a.from a.block.now a.n c.requires.0 c.requires.2 a.p c.requires.1 a.values.now _ _ a.flags.now _
+          c.requires.3 c.requires.4 c.values.ensures c.write_flags.ensures c.blank.ensures;
+      flags_after = c.write_flags.ensures;
+    }

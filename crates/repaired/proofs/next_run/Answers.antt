@@ -68,11 +68,12 @@ pub loop-rows-preserved : goal.loop-rows-preserved
 loop-rows-preserved c =
     let f = c.loop-rows.invariant in
     let joins : laws.Joins _ _ _ _ _ _ _ _ f c.if-rows-eq0.slot =
-        elim c.if-rows-eq0.branch
-        [ then-rows-eq0 w ↦
-            laws.joins-first _ _ _ _ _ _ _ _ f c.slot_in-shown.ensures.0 c.slot_in-shown.ensures.1 w.if-rows-eq0.true w.slot-is
-        | else-rows-eq0+else-not-same_entry w ↦
-            laws.joins-same _ _ _ _ _ _ _ _ f c.slot_in-shown.ensures.0 w.same_entry.ensures w.if-not-same_entry.false w.slot-is ] in
+    elim c.if-rows-eq0.branch [
+      | then-rows-eq0 w ↦
+          laws.joins-first _ _ _ _ _ _ _ _ f c.slot_in-shown.ensures.0 c.slot_in-shown.ensures.1 w.if-rows-eq0.true w.slot-is
+      | else-rows-eq0+else-not-same_entry w ↦
+          laws.joins-same _ _ _ _ _ _ _ _ f c.slot_in-shown.ensures.0 w.same_entry.ensures w.if-not-same_entry.false w.slot-is
+    ] in
     laws.merging-take _ _ _ _ _ _ _ _ c.loop-rows.invariant (joins) c.least-m.result (omega (arith, c.least-m.ensures)) (omega (arith, c.least-m.ensures, c.least-most.ensures)) (omega (arith, c.least-m.ensures, c.least-most.ensures))
 
 pub returns : goal.returns

@@ -1,0 +1,84 @@
+-- `append_keys::one_key` meets its contract: the row is counted in, and then written. Assumes nothing.
+use mathlib.Core.Path.{◌≡◌, sym, ap}
+use mathlib.Core.Bool.{false}
+use lib.IntN.{ℤ}
+use mir.Syntax.{w64}
+use mir.Val.{of_z, to_z}
+use mir.Facts.{to_z-of_z}
+use Rattle.plain.specs.Rows.{Row, row_of}
+use Rattle.format.specs.declared.Encoding.TheVariants.{Dictionary}
+use Rattle.needs.proofs.Encodings.{keys-stored, keys-flagged, keys-coded, keys-keyed}
+use Rattle.append.specs.Appending.{Lent, lent, room_of}
+use Rattle.append.proofs.Passed as laws
+use Rattle.append.proofs.Passed.{Taken}
+use Rattle.append_keys.proofs.one_key.Goals as goal
+
+-- ---- the needs
+pub key_counted-next-requires : goal.key_counted-next-requires
+key_counted-next-requires c =
+    let areas : Lent = let a = c.args in lent a.items.now a.ends.now a.flags.now a.counts.now a.keys.now a.lens.now in
+    let row : Row = let a = c.args in row_of a.kind a.present a.value a.item.now in
+    let a = c.args in
+    let z = laws.count-asks a.kind Dictionary a.c (areas) (row) c.requires.0 in
+    (z.0, z.1)
+
+pub returns-then-next-ne0 : goal.returns-then-next-ne0
+unfolding room_of
+returns-then-next-ne0 c =
+    let areas : Lent = let a = c.args in lent a.items.now a.ends.now a.flags.now a.counts.now a.keys.now a.lens.now in
+    let row : Row = let a = c.args in row_of a.kind a.present a.value a.item.now in
+    let counted : let a = c.args in
+    laws.CountedIn a.kind Dictionary a.c (areas) (row) a.stored a.joins c.key_counted-next.result = let a = c.args in
+    laws.counted-row a.kind Dictionary a.c (room_of (areas)) a.present a.value a.item.now a.stored a.joins c.requires.1 c.key_counted-next.ensures in
+    let a = c.args in
+    laws.count-refused a.kind Dictionary a.c (areas) (row) c.requires.0 (counted) c.if-next-ne0.true
+
+pub write_stored-requires : goal.write_stored-requires
+unfolding room_of
+write_stored-requires c =
+    let row : Row = let a = c.args in row_of a.kind a.present a.value a.item.now in
+    let passed : let a = c.args in row_of a.kind a.present (to_z w64 (of_z w64 a.value)) a.item.now ≡ row = let a = c.args in
+    ap (λ (v : ℤ). row_of a.kind a.present v a.item.now) (to_z-of_z c.ranges.value) in
+    let areas : Lent = let a = c.args in lent a.items.now a.ends.now a.flags.now a.counts.now a.keys.now a.lens.now in
+    let counted : let a = c.args in
+    laws.CountedIn a.kind Dictionary a.c (areas) (row) a.stored a.joins c.key_counted-next.result = let a = c.args in
+    laws.counted-row a.kind Dictionary a.c (room_of (areas)) a.present a.value a.item.now a.stored a.joins c.requires.1 c.key_counted-next.ensures in
+    let taken : let a = c.args in
+    Taken a.kind Dictionary a.c (areas) (row) a.stored a.joins a.key a.len c.key_counted-next.result =
+    record { found = c.requires.0; long = c.requires.1; counted = counted; done = c.if-next-ne0.false } in
+    let a = c.args in
+    λ t. laws.stores-passed a.kind false a.c.entries a.c.bytes (passed)
+    (laws.item-asks a.kind Dictionary a.c (areas) (row) (taken) t (keys-stored a.c) keys-flagged)
+
+pub write_run-requires : goal.write_run-requires
+unfolding room_of
+write_run-requires c =
+    let areas : Lent = let a = c.args in lent a.items.now a.ends.now a.flags.now a.counts.now a.keys.now a.lens.now in
+    let row : Row = let a = c.args in row_of a.kind a.present a.value a.item.now in
+    let counted : let a = c.args in
+    laws.CountedIn a.kind Dictionary a.c (areas) (row) a.stored a.joins c.key_counted-next.result = let a = c.args in
+    laws.counted-row a.kind Dictionary a.c (room_of (areas)) a.present a.value a.item.now a.stored a.joins c.requires.1 c.key_counted-next.ensures in
+    let taken : let a = c.args in
+    Taken a.kind Dictionary a.c (areas) (row) a.stored a.joins a.key a.len c.key_counted-next.result =
+    record { found = c.requires.0; long = c.requires.1; counted = counted; done = c.if-next-ne0.false } in
+    let a = c.args in
+    laws.run-asks a.kind Dictionary a.c (areas) (row) (taken) keys-coded (sym keys-keyed)
+
+pub returns : goal.returns
+unfolding room_of
+returns c =
+    let areas : Lent = let a = c.args in lent a.items.now a.ends.now a.flags.now a.counts.now a.keys.now a.lens.now in
+    let row : Row = let a = c.args in row_of a.kind a.present a.value a.item.now in
+    let counted : let a = c.args in
+    laws.CountedIn a.kind Dictionary a.c (areas) (row) a.stored a.joins c.key_counted-next.result = let a = c.args in
+    laws.counted-row a.kind Dictionary a.c (room_of (areas)) a.present a.value a.item.now a.stored a.joins c.requires.1 c.key_counted-next.ensures in
+    let taken : let a = c.args in
+    Taken a.kind Dictionary a.c (areas) (row) a.stored a.joins a.key a.len c.key_counted-next.result =
+    record { found = c.requires.0; long = c.requires.1; counted = counted; done = c.if-next-ne0.false } in
+    let passed : let a = c.args in row_of a.kind a.present (to_z w64 (of_z w64 a.value)) a.item.now ≡ row = let a = c.args in
+    ap (λ (v : ℤ). row_of a.kind a.present v a.item.now) (to_z-of_z c.ranges.value) in
+    let a = c.args in
+    laws.row_done a.kind Dictionary a.c (areas) (row) (taken) (keys-stored a.c) keys-flagged (sym keys-coded) (sym keys-keyed)
+    (laws.put-passed a.kind false a.c.entries a.c.bytes (passed) a.stored (areas)
+    (c.write_stored.ensures.after, (c.write_stored.ensures.ends_after, (c.write_stored.ensures.flags_after, c.write_stored.ensures.lens_after))))
+    c.write_run.ensures.counts_after c.write_run.ensures.keys_after
