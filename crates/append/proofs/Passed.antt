@@ -2,23 +2,22 @@
 -- and the answer at each end. Assumes nothing.
 use Prim.Native.Nat.{ℕ, ◌+◌, ◌*◌, ◌≤◌, ◌<◌}
 use native.Mathlib.Omega.{arith}
-use mathlib.Core.Path.{◌≡◌, refl, sym, ap, subst, ◌∙◌}
+use mathlib.Core.Path.{◌≡◌, refl, sym, ap, ◌∙◌}
 use mathlib.Core.Bool.{Bool, true, false, cond, not, ◌&&◌}
 use mathlib.Core.List.{List}
 use lib.Dec.{eqb}
 use lib.IntN.{ℤ}
 use lib.ListN.{length, set}
 use borrow.Author.Tests.{ltb-false, eqb-true, eq-eqb, ne_eqb, not-false}
-use mir.Syntax.{w32, w64}
+use mir.Syntax.{w32}
 use mir.Val.{of_z, to_z, SFits}
 use mir.Facts.{to_z-of_z}
 use Rattle.limits.specs.Limits.{MOST_ITEMS, MOST_ENTRIES, MOST_COUNT}
-use Rattle.limits.specs.Refusals.{LIMIT, ROOM}
 use Rattle.area.specs.Area.{over}
 use Rattle.encode.specs.declared.Kind.{Kind}
 use Rattle.encode.specs.declared.Kind.TheVariants.{Fixed, Char, Blob}
 use Rattle.encode.specs.Kinds.{width_of}
-use Rattle.plain.specs.Rows.{Row, value_of, row_of, bytes_in, fits}
+use Rattle.plain.specs.Rows.{Row, value_of, row_of, bytes_in}
 use Rattle.plain.specs.Plain.{item_of}
 use Rattle.nullable.specs.Nullable.{presence}
 use Rattle.format.specs.declared.Encoding.{Encoding}
@@ -30,16 +29,13 @@ use Rattle.needs.specs.declared.Counted.{Counted}
 use Rattle.needs.specs.declared.Room.{Room}
 use Rattle.needs.specs.Needs.{coded, flagged, keyed, stored_by, past_limits, bytes_wrong, record_wrong, fields_short, too_short, disagree}
 use Rattle.needs.specs.Tests.{runs_by}
-use Rattle.needs.proofs.Encodings.{runs-stored, runs-keyed, keys-stored, keys-keyed}
+use Rattle.needs.proofs.Encodings.{runs-stored, keys-stored, keys-keyed}
 use Rattle.needs.proofs.Short.{fitting}
-use Rattle.needs.proofs.Wrong.{right, bytes-right, Agree, agree}
-use Rattle.step.specs.declared.Step.{Step}
-use Rattle.step.specs.declared.Step.TheVariants.{Row as Adds, Wrong}
+use Rattle.needs.proofs.Wrong.{right, bytes-right, agree}
 use Rattle.step.specs.declared.Next.{Next}
-use Rattle.step.specs.Steps.{step_of}
-use Rattle.step.specs.Counting.{grown, next_of, counted_by}
+use Rattle.step.specs.Counting.{grown, counted_by}
 use Rattle.step.proofs.Steps.{step-says, step_fits}
-use Rattle.append.specs.Appending.{Lent, lent, room_of, held_in, laid, Added, added_to, added_with, added_by, added}
+use Rattle.append.specs.Appending.{Lent, lent, room_of, held_in, laid, added_to, added_with, added_by, added}
 use Rattle.append.specs.Asking.{Stores, Found}
 use Rattle.append.proofs.Slots.{Counts, stores, counts}
 

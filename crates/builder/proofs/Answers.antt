@@ -21,12 +21,9 @@ use Rattle.append.specs.Appending.{Lent, lent, Added, added_to}
 use Rattle.copies.specs.Copies.{added_times}
 use Rattle.copies_laws.proofs.Answers.{once, copies-refused-keep}
 use Rattle.builder.specs.declared.Builder.{Builder}
-use Rattle.builder.specs.declared.Created.{Created}
 use Rattle.builder.specs.declared.Created.TheVariants.{New, Refused}
 use Rattle.builder.specs.declared.Appended.{Appended}
-use Rattle.builder.specs.declared.Estimated.{Estimated}
-use Rattle.builder.specs.declared.Asked.{Asked}
-use Rattle.builder.specs.Building.{empty, created_in, created, counting, Append, append_of, append_with, appended_in, appended, appended_times_in, appended_times}
+use Rattle.builder.specs.Building.{empty, created_in, created, counting, Append, append_with, appended_in, appended, appended_times_in, appended_times}
 use Rattle.builder.specs.Finishing.{estimated_as, estimated_in, estimated, asked_as, asked_in, asked}
 
 -- ---- creation

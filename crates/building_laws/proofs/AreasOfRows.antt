@@ -21,7 +21,6 @@ use Rattle.rle.specs.RunLength.{Run}
 use Rattle.dict.specs.Dictionary.{i32}
 use Rattle.plain.proofs.Ends.{length-ends}
 use Rattle.format.specs.declared.Encoding.{Encoding}
-use Rattle.format.specs.declared.Encoding.TheVariants.{Plain, Nullable, RunLength, RunLengthNullable, Dictionary}
 use Rattle.format.specs.Sizes.{stored_entries}
 use Rattle.slots.specs.Slots.{ends_with, lens_with, flags_with, counts_with}
 use Rattle.needs.specs.declared.Counted.{Counted}
@@ -103,7 +102,8 @@ module _ (x : Row) (s s' : List Row) where
       (beside-slots item (ends_from 0 (map f s)) (ends_from 0 (map f s')) (m + length (f x)) n l (grows item g) (e ∙ sym (long s)) (rw (long s') h) (rw (long s) q))
     where
       grows : (item : Bool) → s' ≡ cond item (s ++ (x ∷ [])) s
-          → ends_from 0 (map (item_of (Blob text)) s') ≡ cond item (ends_from 0 (map (item_of (Blob text)) s) ++ ((m + length (item_of (Blob text) x)) ∷ [])) (ends_from 0 (map (item_of (Blob text)) s))
+          → ends_from 0 (map (item_of (Blob text)) s')
+          ≡ cond item (ends_from 0 (map (item_of (Blob text)) s) ++ ((m + length (item_of (Blob text) x)) ∷ [])) (ends_from 0 (map (item_of (Blob text)) s))
       grows true g = rw (g, d) (ends_snoc (item_of (Blob text)) 0 s x ∙ rw zero-add)
       grows false g = rw g
 

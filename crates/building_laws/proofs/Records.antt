@@ -26,7 +26,8 @@ use Rattle.format.specs.Blocks.{block_of}
 use Rattle.format.specs.Sizes.{run_rows, keys_of, stored_items, stored_entries, within_limits}
 use Rattle.format.proofs.Within.{within-told}
 use Rattle.needs.specs.declared.Counted.{Counted}
-use Rattle.needs.specs.Needs.{coded, flagged, keyed, stored_by, plain_bytes, inner_bytes, run_bytes, finished_bytes, counts_past, past_limits, bytes_wrong, record_wrong, fields_short, runs_short, too_short}
+use Rattle.needs.specs.Needs.{coded, flagged, keyed, stored_by, plain_bytes, inner_bytes, run_bytes, finished_bytes, counts_past, past_limits}
+use Rattle.needs.specs.Needs.{bytes_wrong, record_wrong, fields_short, runs_short, too_short}
 use Rattle.step.specs.Counting.{grown}
 use Rattle.append.specs.Appending.{Lent, room_of}
 use Rattle.building_laws.specs.Built.{stored_rows, stored_runs, end_slots, len_slots, Enough}

@@ -1,7 +1,7 @@
 -- Counted numbers that are each no less than another's: if they are within the limits and have room, so were the others. Assumes nothing.
 use Prim.Native.Nat.{ℕ, zero, suc, ◌+◌, ◌*◌, ◌≤◌}
 use native.Mathlib.Omega.{arith}
-use mathlib.Core.Path.{◌≡◌, refl, sym, ap, ◌∙◌}
+use mathlib.Core.Path.{◌≡◌, refl}
 use mathlib.Core.Bool.{Bool, true, false, cond, not, ◌&&◌, ◌||◌}
 use lib.Dec.{ltb, eqb}
 use borrow.Author.Tests.{le-ltb, ltb-false, ne_eqb}
@@ -15,7 +15,7 @@ use Rattle.format.specs.declared.Encoding.TheVariants.{Plain, Nullable, RunLengt
 use Rattle.needs.specs.declared.Counted.{Counted}
 use Rattle.needs.specs.declared.Room.{Room}
 use Rattle.needs.specs.Needs.{coded, flagged, keyed, stored_by, plain_bytes, inner_bytes, run_bytes, finished_bytes, counts_past, past_limits, fields_short, runs_short, too_short}
-use Rattle.needs.proofs.Short.{Fitting, fitting}
+use Rattle.needs.proofs.Short.{fitting}
 use Rattle.step.specs.Counting.{growth, grown}
 
 pub record NoLess (r s : Counted) : Type 0 where

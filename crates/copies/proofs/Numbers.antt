@@ -21,7 +21,6 @@ use Rattle.format.specs.declared.Encoding.TheVariants.{Plain, Nullable, RunLengt
 use Rattle.format.specs.contracts.Encoding.{the_type}
 use Rattle.needs.specs.declared.Counted.{Counted}
 use Rattle.needs.specs.Needs.{coded, keyed, stored_by, inner_bytes, finished_bytes, counts_past, past_limits}
-use Rattle.needs.proofs.Encodings.{keyed-coded}
 use Rattle.needs.proofs.Lengths.{inner-least, run-some}
 use Rattle.needs.proofs.Limits.{few, within, limit-past, limit-holds, past-stored}
 use Rattle.step.specs.declared.Next.{Next}

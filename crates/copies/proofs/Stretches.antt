@@ -2,10 +2,9 @@
 use Prim.Native.Nat.{ℕ, zero, suc, ◌+◌, ◌-◌, ◌≤◌, ◌<◌}
 use native.Mathlib.Nat.{add-zero, zero-add}
 use native.Mathlib.Omega.{arith}
-use mathlib.Core.Path.{◌≡◌, refl, sym, ap, ◌∙◌}
-use mathlib.Core.Bool.{Bool, true, false, cond, not, ◌&&◌}
+use mathlib.Core.Path.{◌≡◌, refl, ap, ◌∙◌}
+use mathlib.Core.Bool.{Bool, true, false, not, ◌&&◌}
 use mathlib.Core.List.{List, [], ◌∷◌}
-use lib.Dec.{ltb}
 use lib.IntN.{ℤ}
 use lib.ListN.{length, set}
 use borrow.Author.Tests.{lt-ltb}
@@ -17,7 +16,7 @@ use Rattle.nullable.specs.Nullable.{presence}
 use Rattle.varint.specs.Varint.{spelling}
 use Rattle.format.specs.declared.Encoding.{Encoding}
 use Rattle.needs.specs.declared.Counted.{Counted}
-use Rattle.needs.specs.Needs.{coded, keyed, flagged, stored_by}
+use Rattle.needs.specs.Needs.{coded, keyed}
 use Rattle.slots.specs.Slots.{counts_with}
 use Rattle.step.specs.Steps.{run_open}
 use Rattle.step.specs.Counting.{growth, grown}

@@ -40,8 +40,25 @@ pub fn write_counts(
 }
 
 // What a run's key counts from null's: 0 for null, else the place of its entry, from 1 on, among the `kept` ones, which are a plain block.
-// Entries are written in order of first use, so the one behind the `next` that were met before is looked at first.
 fn key_slot(
+    kind: Kind,
+    entries: usize,
+    items: &[u8],
+    slot: usize,
+    kept: usize,
+    written: &[u8],
+) -> usize
+    requires { Entered kind entries items.now × (slot ≤ entries) × Entered kind kept written.now }
+    ensures { (result ≡ key_slot (plain_rows kind kept written.now) (entry_row kind entries items.now slot)) × (result ≤ kept + 1) }
+{
+    if slot == 0 {
+        return 0;
+    }
+    used::first_like(kind, kept, written, entries, items, slot) + 1
+}
+
+// The same where entries are written in order of first use: the one behind the `next` that were met before is looked at first.
+fn key_after(
     kind: Kind,
     entries: usize,
     items: &[u8],
@@ -53,15 +70,14 @@ fn key_slot(
     requires { Entered kind entries items.now × (slot ≤ entries) × Entered kind kept written.now × Apart (plain_rows kind kept written.now) }
     ensures { (result ≡ key_slot (plain_rows kind kept written.now) (entry_row kind entries items.now slot)) × (result ≤ kept + 1) }
 {
-    if slot == 0 {
-        return 0;
-    }
-    if next < kept {
-        if matching::same_slot(kind, entries, items, slot, kept, written, next + 1) {
-            return next + 1;
+    if 0 < slot {
+        if next < kept {
+            if matching::same_slot(kind, entries, items, slot, kept, written, next + 1) {
+                return next + 1;
+            }
         }
     }
-    used::first_like(kind, kept, written, entries, items, slot) + 1
+    key_slot(kind, entries, items, slot, kept, written)
 }
 
 // Their keys. The `kept` entries stand from `from` to `end` already; the first `met` of them are those that the keys so far name.
@@ -92,7 +108,7 @@ pub fn write_keys(
     let mut met = 0;
     while 0 < left {
         let next = repaired::next_run(kind, entries, runs, counts, keys, items, x, left);
-        let key = key_slot(kind, entries, items, next.slot, kept, &out[from..end], met);
+        let key = key_after(kind, entries, items, next.slot, kept, &out[from..end], met);
         if met < key {
             met = key;
         }

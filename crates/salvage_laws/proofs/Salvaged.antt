@@ -16,6 +16,7 @@ use Rattle.dict.specs.Dictionary.{key_length, entries_in}
 use Rattle.dict.proofs.Parts.{length-key-part, length-entries-part}
 use Rattle.format.specs.declared.Encoding.TheVariants.{Dictionary}
 use Rattle.format.specs.declared.Column.TheVariants.{Of}
+use Rattle.format.specs.Opening.{column_number, rows_of}
 use Rattle.format.specs.Blocks.{block_of, cut, stored_row, stored_form}
 use Rattle.format.specs.Sizes.{accepted}
 use Rattle.format.proofs.Sound.{SoundParts, rules-told}
@@ -82,3 +83,10 @@ module _ (k : Kind) (n : ℕ) (b : List ℕ) (sound : rules_but_15 (Of k Diction
       rw rows-many at (our-blocks-sound k Dictionary (repaired_rows k n b) salvaged-accepted),
       rw rows-many at (our-blocks-hold k Dictionary (repaired_rows k n b) salvaged-accepted) ∙ own-form k n b,
     )
+
+    -- The halves of that, each by itself.
+    pub salvaged-opens : column_number (Of k Dictionary) n (block_of k Dictionary (repaired_rows k n b)) ≡ 0
+    salvaged-opens = gives-repaired.0
+
+    pub salvaged-rows : rows_of k Dictionary n (block_of k Dictionary (repaired_rows k n b)) ≡ repaired_rows k n b
+    salvaged-rows = gives-repaired.1

@@ -2,7 +2,6 @@
 use Rattle.std.specs.Prelude.{ℕ, ◌+◌, ◌-◌, Bool, cond, not, ◌&&◌, length}
 use Rattle.encode.specs.declared.Kind.{Kind}
 use Rattle.varint.specs.Varint.{spelling}
-use Rattle.plain.specs.Rows.{null, bytes}
 use Rattle.format.specs.declared.Encoding.{Encoding}
 use Rattle.needs.specs.declared.Counted.{Counted}
 use Rattle.needs.specs.declared.Room.{Room}

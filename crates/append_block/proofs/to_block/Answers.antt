@@ -2,7 +2,6 @@
 use Rattle.needs.proofs.Encodings.{rows_told, runs-told}
 use Rattle.append.specs.Appending.{Lent, lent}
 use Rattle.append_times.proofs.Ways.{arm}
-use borrow.Enum.Refused.{opened}
 use Rattle.append_block.proofs.to_block.Goals as goal
 
 pub returns-in-Plain : goal.returns-in-Plain

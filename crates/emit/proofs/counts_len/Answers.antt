@@ -1,6 +1,5 @@
 -- `counts_len` meets its contract. The loop's invariant is `Measuring`, its measure the counts that are left. Assumes nothing.
 use native.Mathlib.Omega.{arith}
-use Prim.Native.Nat.{◌-◌}
 use Rattle.emit.proofs.SlotLoops as laws
 use Rattle.emit.proofs.counts_len.Goals as goal
 

@@ -1,6 +1,5 @@
 -- `write_counts` meets its contract. The loop's invariant is `Laying`, its measure the counts that are left. Assumes nothing.
 use native.Mathlib.Omega.{arith}
-use Prim.Native.Nat.{◌-◌}
 use Rattle.varint.specs.Varint.{spelling}
 use Rattle.emit.specs.Parts.{held_counts}
 use Rattle.emit.proofs.SlotLoops as laws

@@ -1,6 +1,5 @@
 -- `write_ends` meets its contract. The loop's invariant is `Laying`, its measure the ends that are left. Assumes nothing.
 use native.Mathlib.Omega.{arith}
-use Prim.Native.Nat.{◌-◌}
 use Rattle.encode.specs.Bytes.{little}
 use Rattle.emit.proofs.SlotLoops as laws
 use Rattle.emit.proofs.write_ends.Goals as goal

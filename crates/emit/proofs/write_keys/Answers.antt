@@ -1,9 +1,8 @@
 -- `write_keys` meets its contract. The loop's invariant is `Laying`, its measure the keys that are left. Assumes nothing.
 use native.Mathlib.Omega.{arith}
-use Prim.Native.Nat.{ℕ, ◌-◌}
-use mathlib.Core.List.{List}
+use Prim.Native.Nat.{ℕ}
 use mathlib.Core.Path.{ap, ◌∙◌}
-use lib.IntN.{ℤ, pos}
+use lib.IntN.{pos}
 use mir.Syntax.{w32}
 use mir.Val.{of_z, SFits}
 use mir.Facts.{to_z-of_z}

@@ -1,6 +1,5 @@
 -- `needs::stored` meets its contract: each return by the law of the tests and arms that led there. Assumes nothing.
 use Rattle.needs.proofs.Encodings as encodings
-use borrow.Enum.Refused.{opened}
 use Rattle.needs.proofs.stored.Goals as goal
 
 pub returns-in-Plain : goal.returns-in-Plain

@@ -14,8 +14,8 @@ next_run-next-requires c =
     let p = c.requires in
     (p.0, p.1, c.loop-left.invariant.ahead, omega arith)
 
-pub key_slot-key-requires : goal.key_slot-key-requires
-key_slot-key-requires c =
+pub key_after-key-requires : goal.key_after-key-requires
+key_after-key-requires c =
     let p = c.requires in
     let g = c.loop-left.invariant in (
       p.1,
@@ -32,7 +32,7 @@ put_low4-to-requires c =
 pub loop-left-preserved : goal.loop-left-preserved
 loop-left-preserved c =
     let p = c.requires in
-    laws.keys_step _ _ _ _ _ _ _ _ _ c.loop-left.invariant _ _ p.7 c.next_run-next.ensures p.5 p.6 c.key_slot-key.ensures c.put_low4-to.ensures.value c.put_low4-to.ensures.out_after
+    laws.keys_step _ _ _ _ _ _ _ _ _ c.loop-left.invariant _ _ p.7 c.next_run-next.ensures p.5 p.6 c.key_after-key.ensures c.put_low4-to.ensures.value c.put_low4-to.ensures.out_after
 
 pub shape_of-out : goal.shape_of-out
 shape_of-out c = c.loop-left.invariant.long

@@ -3,7 +3,6 @@ use Rattle.sizes.proofs.Estimates as laws
 use native.Mathlib.Omega.{arith}
 use Rattle.needs.proofs.Encodings.{coded-runs, coded-keys}
 use Rattle.needs.proofs.Wrong.{right}
-use borrow.Enum.Refused.{opened}
 use Rattle.sizes.proofs.size_of.Goals as goal
 
 pub inner_size-inner-requires : goal.inner_size-inner-requires

@@ -1,7 +1,7 @@
 -- `builder::Builder::finish` meets its contract: each test's fact is said once, at its place, and each return cites what the tests have shown. Assumes
 -- nothing.
 use mathlib.Core.Path.{◌≡◌, refl, sym, ap, ◌∙◌}
-use mathlib.Core.Bool.{true, false}
+use mathlib.Core.Bool.{false}
 use lib.ListN.{length}
 use lib.Seq.{sets}
 use Rattle.needs.specs.Needs.{disagree}

@@ -5,7 +5,6 @@ use Rattle.limits.specs.Limits.{MOST_ITEMS}
 use Rattle.needs.proofs.Encodings.{coded-not, coded-runs, coded-keys, keyed-so, stored-rows}
 use Rattle.needs.proofs.Limits.{few}
 use Rattle.copies.proofs.Numbers as laws
-use borrow.Enum.Refused.{opened}
 use Rattle.copies.proofs.counting.counted_in.Goals as goal
 
 pub grown_row-requires : goal.grown_row-requires

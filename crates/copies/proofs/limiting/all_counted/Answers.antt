@@ -1,7 +1,7 @@
 -- `copies::all_counted` meets its contract: each return by the law of the tests that led there. Assumes nothing.
 use native.Mathlib.Omega.{arith}
 use Prim.Native.Nat.{◌-◌}
-use mathlib.Core.Bool.{cond, false}
+use mathlib.Core.Bool.{cond}
 use mathlib.Core.Path.{sym, ap, ◌∙◌}
 use Rattle.needs.specs.declared.Counted.{Counted}
 use Rattle.needs.proofs.Wrong.{Right, right}
