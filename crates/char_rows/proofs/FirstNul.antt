@@ -19,7 +19,8 @@ pub nearest-start : (w : ℕ) (s : List ℕ) (i at : ℕ) → at ≡ i * w → N
 nearest-start w s i at e = record { either = inl (uncut-start w s i at e, refl); sound = omega arith; short = omega arith }
 
 module _ {w : ℕ} {s : List ℕ} {i at k len : ℕ} (g : Nearest w s i at k len) where
-  pub nearest-step : k < w → at + k < length s → {p r : ℕ} → (get_or s (at + k) 0 ≡ 0 → p ≡ k) × (0 < get_or s (at + k) 0 → p ≡ w) → (p < len → r ≡ p) × (len ≤ p → r ≡ len) → Nearest w s i at (k + 1) r
+  pub nearest-step : k < w → at + k < length s → {p r : ℕ} → (get_or s (at + k) 0 ≡ 0 → p ≡ k) × (0 < get_or s (at + k) 0 → p ≡ w) → (p < len → r ≡ p) × (len ≤ p → r ≡ len) →
+      Nearest w s i at (k + 1) r
   nearest-step h b {p} {r} a l = ⊎_elim letter nul (lt-or-ge 0 (get_or s (at + k) 0))
     where
       nul : get_or s (at + k) 0 ≤ 0 → Nearest w s i at (k + 1) r

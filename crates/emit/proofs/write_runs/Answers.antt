@@ -25,14 +25,14 @@ pub write_counts-requires : goal.write_counts-requires
 write_counts-requires c =
     let a = c.args in
     let head = laws.laid_both a.out.now a.at (little 4 a.n) (little 4 a.len)
-      (c.put_low4-a.ensures.value, c.put_low4-a.ensures.out_after) (c.put_low4-b.ensures.value, c.put_low4-b.ensures.out_after) in
+    (c.put_low4-a.ensures.value, c.put_low4-a.ensures.out_after) (c.put_low4-b.ensures.value, c.put_low4-b.ensures.out_after) in
     (c.requires.0, laws.room-second a.out.now a.at (little 4 a.n ++ little 4 a.len) (held_counts a.n a.counts.now) head c.requires.1)
 
 pub returns : goal.returns
 returns c =
     let a = c.args in
     let head = laws.laid_both a.out.now a.at (little 4 a.n) (little 4 a.len)
-      (c.put_low4-a.ensures.value, c.put_low4-a.ensures.out_after) (c.put_low4-b.ensures.value, c.put_low4-b.ensures.out_after) in
+    (c.put_low4-a.ensures.value, c.put_low4-a.ensures.out_after) (c.put_low4-b.ensures.value, c.put_low4-b.ensures.out_after) in
     let all = laws.laid_both a.out.now a.at (little 4 a.n ++ little 4 a.len) (held_counts a.n a.counts.now) head
     (c.write_counts.ensures.value, c.write_counts.ensures.out_after) in
     record { value = all.0; out_after = all.1 }

@@ -51,7 +51,8 @@ loop-left-smaller c =
 pub loop-left-preserved : goal.loop-left-preserved
 loop-left-preserved c =
     let f = c.loop-left.invariant in
-    laws.marking_step _ _ _ _ _ _ _ f c.lost_at-lost.ensures (omega (arith, laws.marking-fits _ _ _ _ _ _ _ f, f.ahead.some, c.ranges.n)) (c.add-mark.ensures.value, (c.add-mark.ensures.firsts_after, c.add-mark.ensures.lasts_after))
+    laws.marking_step _ _ _ _ _ _ _ f c.lost_at-lost.ensures (omega (arith, laws.marking-fits _ _ _ _ _ _ _ f, f.ahead.some, c.ranges.n))
+    (c.add-mark.ensures.value, (c.add-mark.ensures.firsts_after, c.add-mark.ensures.lasts_after))
 
 -- ---- the end
 pub end-ended-requires : goal.end-ended-requires

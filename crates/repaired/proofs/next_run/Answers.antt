@@ -74,7 +74,8 @@ loop-rows-preserved c =
       | else-rows-eq0+else-not-same_entry w ↦
           laws.joins-same _ _ _ _ _ _ _ _ f c.slot_in-shown.ensures.0 w.same_entry.ensures w.if-not-same_entry.false w.slot-is
     ] in
-    laws.merging-take _ _ _ _ _ _ _ _ c.loop-rows.invariant (joins) c.least-m.result (omega (arith, c.least-m.ensures)) (omega (arith, c.least-m.ensures, c.least-most.ensures)) (omega (arith, c.least-m.ensures, c.least-most.ensures))
+    laws.merging-take _ _ _ _ _ _ _ _ c.loop-rows.invariant (joins) c.least-m.result (omega (arith, c.least-m.ensures)) (omega (arith, c.least-m.ensures, c.least-most.ensures))
+    (omega (arith, c.least-m.ensures, c.least-most.ensures))
 
 pub returns : goal.returns
 returns c =

@@ -55,7 +55,8 @@ pub loop-left-smaller : goal.loop-left-smaller
 loop-left-smaller c =
     let inside : c.loop-left.run + c.pass-short.result.runs ≤ c.args.runs = grouped-inside c.loop-left.invariant.0 (omega arith) c.pass-short.ensures in
     let stop-within : c.loop-left.run + c.pass-short.result.runs + c.least.result ≤ c.args.runs = omega (arith, c.least.ensures, inside) in
-    let stop-behind : c.loop-left.run + c.pass-short.result.runs < c.args.runs → c.loop-left.run + c.pass-short.result.runs < c.loop-left.run + c.pass-short.result.runs + c.least.result = λ l. omega (arith, c.least.ensures, c.next_few-most.ensures) in
+    let stop-behind : c.loop-left.run + c.pass-short.result.runs < c.args.runs →
+    c.loop-left.run + c.pass-short.result.runs < c.loop-left.run + c.pass-short.result.runs + c.least.result = λ l. omega (arith, c.least.ensures, c.next_few-most.ensures) in
     part-less c.loop-left.invariant.0 (omega arith) c.pass-short.ensures (stop-within) c.pass_runs-gone.ensures c.in-To.is (omega arith)
     (stop-behind)
 

@@ -32,7 +32,8 @@ returns-then-left-rows c =
 pub overflow_add-at : goal.overflow_add-at
 overflow_add-at c =
     let found : Found (c.args.first + c.args.most) c.args.counts.now
-    (spot (c.args.first + c.args.most - c.loop-left.few) c.loop-left.at 0) c.in-Number.value c.in-Number.len = laws.few-found c.loop-left.invariant (omega arith) c.if-few-eq0.false c.decode_u32-count.ensures c.in-Number.is c.if-rows-eq0.false in
+    (spot (c.args.first + c.args.most - c.loop-left.few) c.loop-left.at 0) c.in-Number.value c.in-Number.len =
+    laws.few-found c.loop-left.invariant (omega arith) c.if-few-eq0.false c.decode_u32-count.ensures c.in-Number.is c.if-rows-eq0.false in
     omega (arith, (found).within, c.well_formed)
 
 pub loop-left-preserved : goal.loop-left-preserved

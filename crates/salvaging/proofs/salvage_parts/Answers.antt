@@ -67,8 +67,7 @@ write_block-requires c =
     let block : List ℕ = dictionary_of c.args.kind (rows) in
     let long : c.block_len-len.result ≡ length (block) = sizes.found-long c.args.kind (rows) c.sizes_of-sizes.ensures.value c.block_len-len.ensures in
     let room : length (block) ≤ length c.args.out.now = omega (arith, long, c.if-out-len.false) in
-    let p = c.requires in
-    (
+    let p = c.requires in (
       p.keyed,
       p.entered,
       p.ahead,

@@ -63,5 +63,5 @@ unfolding part_in
 returns c =
     let a = c.args in
     let all = laws.parts-salvaged c.requires a.firsts.now a.lasts.now a.out.now
-      (c.salvage_parts.ensures.value, (c.salvage_parts.ensures.firsts_after, (c.salvage_parts.ensures.lasts_after, c.salvage_parts.ensures.out_after))) in
+    (c.salvage_parts.ensures.value, (c.salvage_parts.ensures.firsts_after, (c.salvage_parts.ensures.lasts_after, c.salvage_parts.ensures.out_after))) in
     record { value = all.0; firsts_after = all.1.0; lasts_after = all.1.1.0; out_after = all.1.1.1 }

@@ -10,7 +10,12 @@ pub returns-then-not-use_item : goal.returns-then-not-use_item
 returns-then-not-use_item c =
     let a = c.args in
     let p = c.requires in
-    record { value = (λ es f. shown-met a.kind a.n a.items.now a.slot p.4 p.5 f (sym c.use_item.ensures.value ∙ c.if-not-use_item.true) (c.use_item.ensures.bits_len_unchanged, c.use_item.ensures.by_index)); bits_len_unchanged = refl; met_len_unchanged = c.use_item.ensures.bits_len_unchanged }
+    record {
+      value = (λ es f. shown-met a.kind a.n a.items.now a.slot p.4 p.5 f (sym c.use_item.ensures.value ∙ c.if-not-use_item.true)
+          (c.use_item.ensures.bits_len_unchanged, c.use_item.ensures.by_index));
+      bits_len_unchanged = refl;
+      met_len_unchanged = c.use_item.ensures.bits_len_unchanged;
+    }
 
 pub use_item-requires-2 : goal.use_item-requires-2
 use_item-requires-2 c =

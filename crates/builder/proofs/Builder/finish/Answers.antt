@@ -50,7 +50,7 @@ returns-then-out-len c =
     let areas : Lent = let a = c.args in lent a.items.now a.ends.now a.flags.now a.counts.now a.keys.now a.lens.now in
     let agrees : disagree c.in-Of.kind c.in-Of.encoding c.args.self.counted (room_of (areas)) ≡ false = sym c.disagrees.ensures ∙ c.if-disagrees.false in
     let long : c.block_bytes-len.result ≡ length (held_block c.in-Of.kind c.in-Of.encoding c.args.self.counted (areas)) =
-      laws.long c.in-Of.kind c.in-Of.encoding c.args.self.counted (areas) (agrees) c.held_counts-size.ensures.0 c.held_counts-size.ensures.1 c.with_counts.ensures
+    laws.long c.in-Of.kind c.in-Of.encoding c.args.self.counted (areas) (agrees) c.held_counts-size.ensures.0 c.held_counts-size.ensures.1 c.with_counts.ensures
     c.block_bytes-len.ensures in
     let a = c.args in
     let all = laws.given (finished a.self (areas) a.out.now)
@@ -72,7 +72,7 @@ returns c =
     let areas : Lent = let a = c.args in lent a.items.now a.ends.now a.flags.now a.counts.now a.keys.now a.lens.now in
     let agrees : disagree c.in-Of.kind c.in-Of.encoding c.args.self.counted (room_of (areas)) ≡ false = sym c.disagrees.ensures ∙ c.if-disagrees.false in
     let long : c.block_bytes-len.result ≡ length (held_block c.in-Of.kind c.in-Of.encoding c.args.self.counted (areas)) =
-      laws.long c.in-Of.kind c.in-Of.encoding c.args.self.counted (areas) (agrees) c.held_counts-size.ensures.0 c.held_counts-size.ensures.1 c.with_counts.ensures
+    laws.long c.in-Of.kind c.in-Of.encoding c.args.self.counted (areas) (agrees) c.held_counts-size.ensures.0 c.held_counts-size.ensures.1 c.with_counts.ensures
     c.block_bytes-len.ensures in
     let a = c.args in
     let all = laws.given (finished a.self (areas) a.out.now)

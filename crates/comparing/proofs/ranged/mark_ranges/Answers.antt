@@ -38,6 +38,6 @@ pub returns : goal.returns
 returns c =
     let p = c.requires in
     let r = laws.ranges-marked p.0 p.1 c.least-n.ensures c.walk_blocks-mark.ensures
-      (c.add-marked.ensures.value, (c.add-marked.ensures.firsts_after, c.add-marked.ensures.lasts_after))
-        (c.end-ended.ensures.value, (c.end-ended.ensures.firsts_after, c.end-ended.ensures.lasts_after)) in
+    (c.add-marked.ensures.value, (c.add-marked.ensures.firsts_after, c.add-marked.ensures.lasts_after))
+    (c.end-ended.ensures.value, (c.end-ended.ensures.firsts_after, c.end-ended.ensures.lasts_after)) in
     record { value = r.0; firsts_after = r.1; lasts_after = r.2 }
