@@ -104,3 +104,8 @@ refusal_number Refusal.Unlike = UNLIKE
 abbrev pub number_in : {A : Type 0} → Result A Refusal → ℕ
 number_in (Ok x) = 0
 number_in (Err e) = refusal_number e
+
+-- an outcome with the number in place of the refusal
+abbrev pub by_number : {A : Type 0} → Result A Refusal → Result A ℕ
+by_number (Ok x) = Ok x
+by_number (Err e) = Err (refusal_number e)
