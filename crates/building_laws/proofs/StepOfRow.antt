@@ -19,7 +19,7 @@ use Rattle.dict.specs.Dictionary.{index_of, entries_of, null_key, entry_key, key
 use Rattle.format.specs.declared.Encoding.{Encoding}
 use Rattle.format.specs.declared.Encoding.TheVariants.{Plain, Nullable, RunLength, RunLengthNullable, Dictionary}
 use Rattle.format.specs.Sizes.{run_rows, keys_of, stored_entries}
-use Rattle.lookup.specs.declared.Looked.TheVariants.{Entry}
+use Rattle.std.specs.Prelude.{Some}
 use Rattle.lookup.specs.Held.{Held, field_wrong, look_up}
 use Rattle.needs.specs.declared.Counted.{Counted}
 use Rattle.step.specs.declared.Step.TheVariants.{Row as Adds}
@@ -152,7 +152,7 @@ module _ (k : Kind) (rows : List Row) (r : Counted) (a : Lent) (x : Row) where
   stored-in : (e : Encoding) → Holds k e rows a → Stored k (stored_rows e rows) (held_in a)
   stored-in e g = record { items = g.items; ends = g.ends; lens = g.lens; fit = g.fit }
 
-  entry-told : Recorded k Dictionary rows r → Holds k Dictionary rows a → look_up k r.entries r.bytes (held_in a) x ≡ Entry (index_of x (entries_of rows))
+  entry-told : Recorded k Dictionary rows r → Holds k Dictionary rows a → look_up k r.entries r.bytes (held_in a) x ≡ Some (index_of x (entries_of rows))
   unfolding stored_rows stored_entries
   entry-told h g = rw (h.entries, h.bytes) (look_up_lem k (held_in a) x (entries_of rows) (stored-in Dictionary g) (entries-present rows))
 

@@ -20,8 +20,7 @@ use Rattle.plain.specs.Plain.{item_of, places}
 use Rattle.plain.proofs.Same.{same_self}
 use Rattle.nullable.specs.Nullable.{presence}
 use Rattle.dict.specs.Dictionary.{null_key, entry_key}
-use Rattle.lookup.specs.declared.Looked.{Looked}
-use Rattle.lookup.specs.declared.Looked.TheVariants.{Entry, Bad}
+use Rattle.std.specs.Prelude.{Option, Some, None}
 use Rattle.lookup.specs.Held.{Held, held, held_row, field_wrong, look_from, look_up}
 use Rattle.lookup.proofs.Alike.{int_same}
 use Rattle.needs.specs.declared.Counted.{Counted}
@@ -37,16 +36,16 @@ module _ (k : Kind) (n len : ℕ) (h : Held) (row : Row) where
   abbrev pub Other : ℕ → Type 0
   Other i = (field_wrong k n len h i ≡ false) × (same row (held_row k h i) ≡ false)
 
-  one-other : (i : ℕ) (rest : Looked) → i < n → cond (field_wrong k n len h i) Bad (cond (same row (held_row k h i)) (Entry i) rest) ≡ Entry n
-      → Other i × (rest ≡ Entry n)
+  one-other : (i : ℕ) (rest : Option ℕ) → i < n → cond (field_wrong k n len h i) None (cond (same row (held_row k h i)) (Some i) rest) ≡ Some n
+      → Other i × (rest ≡ Some n)
   one-other i rest l q = go (field_wrong k n len h i) (same row (held_row k h i)) refl refl q
     where
-      go : (x y : Bool) → field_wrong k n len h i ≡ x → same row (held_row k h i) ≡ y → cond x Bad (cond y (Entry i) rest) ≡ Entry n → Other i × (rest ≡ Entry n)
+      go : (x y : Bool) → field_wrong k n len h i ≡ x → same row (held_row k h i) ≡ y → cond x None (cond y (Some i) rest) ≡ Some n → Other i × (rest ≡ Some n)
       go true y c d p = let z : ◌≡◌ {A = ℕ} 0 1 = cc in absurd (omega arith)
       go false true c d p = let z : i ≡ n = cc in absurd (omega arith)
       go false false c d p = ((c, d), p)
 
-  from-others : (m i : ℕ) → i + m ≡ n → look_from k n len h row (places m i) ≡ Entry n → (j : ℕ) → i ≤ j → j < n → Other j
+  from-others : (m i : ℕ) → i + m ≡ n → look_from k n len h row (places m i) ≡ Some n → (j : ℕ) → i ≤ j → j < n → Other j
   unfolding look_from places
   from-others zero i e q j a b = absurd (omega arith)
   from-others (suc m) i e q j a b =
@@ -55,7 +54,7 @@ module _ (k : Kind) (n len : ℕ) (h : Held) (row : Row) where
       (λ (l : j ≤ i). let z : i ≡ j = omega arith in subst (λ (x : ℕ). Other x) z o.0)
       (lt-or-ge i j)
 
-  pub all_others : look_up k n len h row ≡ Entry n → (i : ℕ) → i < n → Other i
+  pub all_others : look_up k n len h row ≡ Some n → (i : ℕ) → i < n → Other i
   unfolding look_up
   all_others q i l = from-others n 0 (omega arith) q i (omega arith) l
 
@@ -67,7 +66,7 @@ module _ (k : Kind) (n len : ℕ) (h : Held) (row : Row) where
     abbrev end : ℕ
     end = len + length (item_of k row)
 
-    from-again : (m i : ℕ) → i + m ≡ n → look_from k (n + 1) end after row (places (suc m) i) ≡ Entry n
+    from-again : (m i : ℕ) → i + m ≡ n → look_from k (n + 1) end after row (places (suc m) i) ≡ Some n
     unfolding look_from places
     from-again zero i e =
         let z : i ≡ n = omega arith in
@@ -77,7 +76,7 @@ module _ (k : Kind) (n len : ℕ) (h : Held) (row : Row) where
         let o = others i l in
         rw (old-field n len row h i l k o.0, old_row n len row h i l k g o.0, o.1) (from-again m (suc i) (omega arith))
 
-    pub entry-again : look_up k (n + 1) end after row ≡ Entry n
+    pub entry-again : look_up k (n + 1) end after row ≡ Some n
     unfolding look_up
     entry-again = ap (λ (m : ℕ). look_from k (n + 1) end after row (places m 0)) (add-one n) ∙ from-again n 0 (omega arith)
 
@@ -111,34 +110,34 @@ module _ (k : Kind) (row : Row) where
 
   record EntryFound (r : Counted) (h : Held) (keys : List ℤ) (item joins : Bool) (key : ℤ) : Type 0 where
     place : ℕ
-    looked : look_up k r.entries r.bytes h row ≡ Entry place
+    looked : look_up k r.entries r.bytes h row ≡ Some place
     stored : item ≡ eqb place r.entries
     joined : joins ≡ joins_key r keys key
     named : key ≡ entry_key place
 
-  entry_found : (r : Counted) (h : Held) (keys : List ℤ) (item joins : Bool) (key : ℤ) (l : Looked) → look_up k r.entries r.bytes h row ≡ l
+  entry_found : (r : Counted) (h : Held) (keys : List ℤ) (item joins : Bool) (key : ℤ) (l : Option ℕ) → look_up k r.entries r.bytes h row ≡ l
       → Adds item joins key ≡ entry_step r keys l → EntryFound r h keys item joins key
   unfolding entry_step
-  entry_found r h keys item joins key Bad p q = let z : ◌≡◌ {A = ℕ} 0 1 = cc in absurd (omega arith)
-  entry_found r h keys item joins key (Entry i) p q =
+  entry_found r h keys item joins key None p q = let z : ◌≡◌ {A = ℕ} 0 1 = cc in absurd (omega arith)
+  entry_found r h keys item joins key (Some i) p q =
       let n : key ≡ entry_key i = cc in
       let j : joins ≡ joins_key r keys (entry_key i) = cc in
       record { place = i; looked = p; stored = cc; joined = j ∙ ap (joins_key r keys) (sym n); named = n }
 
   -- ---- and found again, where the lookup finds an entry that is there
-  entry-step-again : (s : Counted) (h : Held) (keys : List ℤ) (i : ℕ) → presence row ≡ 1 → look_up k s.entries s.bytes h row ≡ Entry i
+  entry-step-again : (s : Counted) (h : Held) (keys : List ℤ) (i : ℕ) → presence row ≡ 1 → look_up k s.entries s.bytes h row ≡ Some i
       → eqb i s.entries ≡ false → joins_key s keys (entry_key i) ≡ run_open s → key_step k s h keys row ≡ Adds false (run_open s) (entry_key i)
   unfolding entry_step
   entry-step-again s h keys i p l b j = value-step s h keys p ∙ rw (l, b, j)
 
   module _ (r s : Counted) (is es ls : List ℕ) (keys : List ℤ) {f : Bool} {fs : List ℕ} (need : bytes_wrong k r.entries r.bytes ≡ false) where
-    looked-again : (item : Bool) (i : ℕ) → presence row ≡ 1 → look_up k r.entries r.bytes (held is es ls) row ≡ Entry i → item ≡ eqb i r.entries
+    looked-again : (item : Bool) (i : ℕ) → presence row ≡ 1 → look_up k r.entries r.bytes (held is es ls) row ≡ Some i → item ≡ eqb i r.entries
         → (item ≡ true → Stores k f r.entries r.bytes row (length (item_of k row)) is es fs ls)
         → s.entries ≡ cond item (r.entries + 1) r.entries → s.bytes ≡ cond item (r.bytes + length (item_of k row)) r.bytes
-        → (look_up k s.entries s.bytes (held_next item k r.entries r.bytes row (held is es ls)) row ≡ Entry i) × (eqb i s.entries ≡ false)
+        → (look_up k s.entries s.bytes (held_next item k r.entries r.bytes row (held is es ls)) row ≡ Some i) × (eqb i s.entries ≡ false)
     looked-again true i p l t w n b =
         let z : i ≡ r.entries = eqb-true i r.entries (sym t) in
-        let o = all_others k r.entries r.bytes (held is es ls) row (l ∙ ap Entry z) in
+        let o = all_others k r.entries r.bytes (held is es ls) row (l ∙ ap Some z) in
         let g = behind k r.entries r.bytes row (w refl) need (λ j q. (o j (omega arith)).0) in
         (rw (n, b, z) (entry-again k r.entries r.bytes (held is es ls) row g p o), ne_eqb i s.entries (λ (q : i ≡ s.entries). omega (arith, q)))
     looked-again false i p l t w n b = rw (n, b) (l, sym t)

@@ -18,8 +18,7 @@ use Rattle.plain.specs.Plain.{places}
 use Rattle.dict.specs.Dictionary.{null_key, entry_key}
 use Rattle.format.specs.declared.Encoding.{Encoding}
 use Rattle.format.specs.declared.Encoding.TheVariants.{Plain, Nullable, RunLength, RunLengthNullable, Dictionary}
-use Rattle.lookup.specs.declared.Looked.{Looked}
-use Rattle.lookup.specs.declared.Looked.TheVariants.{Entry, Bad}
+use Rattle.std.specs.Prelude.{Option, Some, None}
 use Rattle.needs.specs.declared.Counted.{Counted}
 use Rattle.step.specs.declared.Step.{Step}
 use Rattle.step.specs.declared.Step.TheVariants.{Row as Adds, Wrong}
@@ -89,13 +88,13 @@ key-bits i h = ap (λ (z : ℤ). to_z w32 (of_z w32 z)) (key-sum i h) ∙ to_z-o
 pub key-sum-fits : (i : ℕ) → i ≤ MOST_ENTRIES → SFits w32 (negsuc 2147483646 +ℤ to_z w32 i)
 key-sum-fits i h = subst (λ (z : ℤ). SFits w32 z) (sym (key-sum i h)) (key_fits i h)
 
-module _ (r : Counted) (keys : List ℤ) {l : Looked} where
-  pub entry-wrong : l ≡ Bad → Wrong ≡ entry_step r keys l
+module _ (r : Counted) (keys : List ℤ) {l : Option ℕ} where
+  pub entry-wrong : l ≡ None → Wrong ≡ entry_step r keys l
   unfolding entry_step
   entry-wrong q = ap (entry_step r keys) (sym q)
 
   pub entry-as :
-      (i : ℕ) → i ≤ MOST_ENTRIES → l ≡ Entry i → {key : ℤ} → key ≡ entry_key i → {y : Bool} → y ≡ joins_key r keys (to_z w32 (of_z w32 key))
+      (i : ℕ) → i ≤ MOST_ENTRIES → l ≡ Some i → {key : ℤ} → key ≡ entry_key i → {y : Bool} → y ≡ joins_key r keys (to_z w32 (of_z w32 key))
       → Adds (eqb i r.entries) y (to_z w32 (of_z w32 key)) ≡ entry_step r keys l
   unfolding entry_step
   entry-as i n q {key} k {y} h =
@@ -185,24 +184,24 @@ module _ (k : Kind) (r : Counted) (is es ls : List ℕ) (row : Row) where
 
 -- ---- the entries
 module _ (k : Kind) (n len : ℕ) (h : Held) (row : Row) where
-  from-bound : (m i : ℕ) → i + m ≡ n → (j : ℕ) → look_from k n len h row (places m i) ≡ Entry j → j ≤ n
+  from-bound : (m i : ℕ) → i + m ≡ n → (j : ℕ) → look_from k n len h row (places m i) ≡ Some j → j ≤ n
   unfolding look_from places
   from-bound zero i e j q = entry-same q
     where
-      entry-same : Entry n ≡ Entry j → j ≤ n
+      entry-same : Some n ≡ Some j → j ≤ n
       entry-same p = let z : n ≡ j = cc in omega arith
   from-bound (suc m) i e j q = go (field_wrong k n len h i) (same row (held_row k h i)) q (from-bound m (suc i) (omega arith) j)
     where
-      go : (a b : Bool) → cond a Bad (cond b (Entry i) (look_from k n len h row (places m (suc i)))) ≡ Entry j → (look_from k n len h row (places m (suc i)) ≡ Entry j → j ≤ n) → j ≤ n
+      go : (a b : Bool) → cond a None (cond b (Some i) (look_from k n len h row (places m (suc i)))) ≡ Some j → (look_from k n len h row (places m (suc i)) ≡ Some j → j ≤ n) → j ≤ n
       go true b p rest = let z : ◌≡◌ {A = ℕ} 0 1 = cc in absurd (omega arith)
       go false true p rest = let z : i ≡ j = cc in omega arith
       go false false p rest = rest p
 
-  look-bound : {x : Looked} → x ≡ look_up k n len h row → (i : ℕ) → x ≡ Entry i → i ≤ n
+  look-bound : {x : Option ℕ} → x ≡ look_up k n len h row → (i : ℕ) → x ≡ Some i → i ≤ n
   unfolding look_up
   look-bound q i p = from-bound n 0 (omega arith) i (sym q ∙ p)
 
-  pub look-few : n ≤ MOST_ENTRIES → {x : Looked} → x ≡ look_up k n len h row → (i : ℕ) → x ≡ Entry i → i ≤ MOST_ENTRIES
+  pub look-few : n ≤ MOST_ENTRIES → {x : Option ℕ} → x ≡ look_up k n len h row → (i : ℕ) → x ≡ Some i → i ≤ MOST_ENTRIES
   look-few m q i p = let b = look-bound q i p in omega arith
 
 module _ (k : Kind) (r : Counted) (h : Held) (keys : List ℤ) (present : Bool) (v : ℤ) (bs : List ℕ) where
@@ -221,7 +220,7 @@ module _ (k : Kind) (r : Counted) (h : Held) (keys : List ℤ) (present : Bool) 
       go (Blob text) = refl
 
   pub key-some :
-      present ≡ true → {l : Looked} → l ≡ look_up k r.entries r.bytes h (value_of k v bs) → {s : Step} → s ≡ entry_step r keys l
+      present ≡ true → {l : Option ℕ} → l ≡ look_up k r.entries r.bytes h (value_of k v bs) → {s : Step} → s ≡ entry_step r keys l
       → s ≡ key_step k r h keys (row_of k present v bs)
   unfolding row_of
   key-some p q e =
@@ -265,11 +264,11 @@ run-says k r h row {item} {joins} {key} q = go (ltb 0 r.runs && field_wrong k r.
         (a ∙ ap not (sym b), λ t. step-open r _ (sym b ∙ t))
 
 entry-says :
-    (r : Counted) (keys : List ℤ) (l : Looked) {item joins : Bool} {key : ℤ} → Adds item joins key ≡ entry_step r keys l
+    (r : Counted) (keys : List ℤ) (l : Option ℕ) {item joins : Bool} {key : ℤ} → Adds item joins key ≡ entry_step r keys l
     → joins ≡ true → (0 < r.runs) × (r.last < MOST_COUNT)
 unfolding entry_step joins_key
-entry-says r keys Bad q t = let z : ◌≡◌ {A = ℕ} 0 1 = cc in absurd (omega arith)
-entry-says r keys (Entry i) {item} {joins} {key} q t = let b : joins ≡ joins_key r keys (entry_key i) = cc in step-open r _ (sym b ∙ t)
+entry-says r keys None q t = let z : ◌≡◌ {A = ℕ} 0 1 = cc in absurd (omega arith)
+entry-says r keys (Some i) {item} {joins} {key} q t = let b : joins ≡ joins_key r keys (entry_key i) = cc in step-open r _ (sym b ∙ t)
 
 key-says :
     (k : Kind) (r : Counted) (h : Held) (keys : List ℤ) (row : Row) {item joins : Bool} {key : ℤ} → Adds item joins key ≡ key_step k r h keys row
@@ -312,11 +311,11 @@ run_fits k r h row {item} {joins} {key} q = go (ltb 0 r.runs && field_wrong k r.
     go false p = none-fits p
 
 entry-fits :
-    (r : Counted) (keys : List ℤ) (l : Looked) → ((i : ℕ) → l ≡ Entry i → i ≤ MOST_ENTRIES) → {item joins : Bool} {key : ℤ} → Adds item joins key ≡ entry_step r keys l
+    (r : Counted) (keys : List ℤ) (l : Option ℕ) → ((i : ℕ) → l ≡ Some i → i ≤ MOST_ENTRIES) → {item joins : Bool} {key : ℤ} → Adds item joins key ≡ entry_step r keys l
     → SFits w32 key
 unfolding entry_step
-entry-fits r keys Bad f q = let z : ◌≡◌ {A = ℕ} 0 1 = cc in absurd (omega arith)
-entry-fits r keys (Entry i) f {item} {joins} {key} q =
+entry-fits r keys None f q = let z : ◌≡◌ {A = ℕ} 0 1 = cc in absurd (omega arith)
+entry-fits r keys (Some i) f {item} {joins} {key} q =
     let z : key ≡ entry_key i = cc in
     subst (λ (y : ℤ). SFits w32 y) (sym z) (key_fits i (f i refl))
 

@@ -1,11 +1,9 @@
 -- 01, "Building": what append finds for its row, as a function of what is counted, the row and what the lent areas hold, for any numbers and all memory.
 -- Assumes nothing.
-use Rattle.std.specs.Prelude.{◌-◌, Bool, true, false, cond, not, ◌&&◌, List, ltb, eqb, ℤ, pos, get_or}
+use Rattle.std.specs.Prelude.{ℕ, ◌-◌, Option, Some, None, Bool, true, false, cond, not, ◌&&◌, List, ltb, eqb, ℤ, pos, get_or}
 use Rattle.encode.specs.declared.Kind.{Kind}
 use Rattle.plain.specs.Rows.{Row, null, int, bytes, same_int, same}
 use Rattle.dict.specs.Dictionary.{null_key, entry_key}
-use Rattle.lookup.specs.declared.Looked.{Looked}
-use Rattle.lookup.specs.declared.Looked.TheVariants.{Entry, Bad}
 use Rattle.lookup.specs.Held.{Held, held_row, field_wrong, look_up}
 use Rattle.format.specs.declared.Encoding.{Encoding}
 use Rattle.format.specs.declared.Encoding.TheVariants.{Plain, Nullable, RunLength, RunLengthNullable, Dictionary}
@@ -35,9 +33,9 @@ run_step k r h row =
 unfoldable pub joins_key : Counted → List ℤ → ℤ → Bool
 joins_key r keys key = run_open r && same_int key (get_or keys (r.runs - 1) (pos 0))
 
-unfoldable pub entry_step : Counted → List ℤ → Looked → Step
-entry_step r keys Bad = Wrong
-entry_step r keys (Entry i) = Adds (eqb i r.entries) (joins_key r keys (entry_key i)) (entry_key i)
+unfoldable pub entry_step : Counted → List ℤ → Option ℕ → Step
+entry_step r keys None = Wrong
+entry_step r keys (Some i) = Adds (eqb i r.entries) (joins_key r keys (entry_key i)) (entry_key i)
 
 -- encoding 4 looks at the entries up to the first that equals the row; a row that is new becomes the next entry
 unfoldable pub key_step : Kind → Counted → Held → List ℤ → Row → Step
