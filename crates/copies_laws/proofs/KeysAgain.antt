@@ -25,8 +25,8 @@ use Rattle.lookup.specs.Held.{Held, held, held_row, field_wrong, look_from, look
 use Rattle.lookup.proofs.Alike.{int_same}
 use Rattle.needs.specs.declared.Counted.{Counted}
 use Rattle.needs.specs.Needs.{bytes_wrong}
-use Rattle.step.specs.declared.Step.TheVariants.{Row as Adds}
-use Rattle.step.specs.Steps.{run_open, joins_key, entry_step, key_step}
+use Rattle.step.proofs.Steps.{adds_same}
+use Rattle.step.specs.Steps.{adds, run_open, joins_key, entry_step, key_step}
 use Rattle.append.specs.Asking.{Stores}
 use Rattle.copies_laws.proofs.ReadBack.{written, held_next, Behind, behind, new-field, new_row, old-field, old_row}
 
@@ -116,17 +116,16 @@ module _ (k : Kind) (row : Row) where
     named : key ≡ entry_key place
 
   entry_found : (r : Counted) (h : Held) (keys : List ℤ) (item joins : Bool) (key : ℤ) (l : Option ℕ) → look_up k r.entries r.bytes h row ≡ l
-      → Adds item joins key ≡ entry_step r keys l → EntryFound r h keys item joins key
+      → adds item joins key ≡ entry_step r keys l → EntryFound r h keys item joins key
   unfolding entry_step
   entry_found r h keys item joins key None p q = let z : ◌≡◌ {A = ℕ} 0 1 = cc in absurd (omega arith)
   entry_found r h keys item joins key (Some i) p q =
-      let n : key ≡ entry_key i = cc in
-      let j : joins ≡ joins_key r keys (entry_key i) = cc in
-      record { place = i; looked = p; stored = cc; joined = j ∙ ap (joins_key r keys) (sym n); named = n }
+      let e = adds_same q in
+      record { place = i; looked = p; stored = e.0; joined = e.1 ∙ ap (joins_key r keys) (sym e.2); named = e.2 }
 
   -- ---- and found again, where the lookup finds an entry that is there
   entry-step-again : (s : Counted) (h : Held) (keys : List ℤ) (i : ℕ) → presence row ≡ 1 → look_up k s.entries s.bytes h row ≡ Some i
-      → eqb i s.entries ≡ false → joins_key s keys (entry_key i) ≡ run_open s → key_step k s h keys row ≡ Adds false (run_open s) (entry_key i)
+      → eqb i s.entries ≡ false → joins_key s keys (entry_key i) ≡ run_open s → key_step k s h keys row ≡ adds false (run_open s) (entry_key i)
   unfolding entry_step
   entry-step-again s h keys i p l b j = value-step s h keys p ∙ rw (l, b, j)
 
@@ -152,29 +151,29 @@ module _ (k : Kind) (row : Row) where
       abbrev keys_after : List ℤ
       keys_after = cond (not joins) (set keys r.runs key) keys
 
-      entry-row-again : presence row ≡ 1 → EntryFound r (held is es ls) keys item joins key → key_step k s held_after keys_after row ≡ Adds false (run_open s) key
+      entry-row-again : presence row ≡ 1 → EntryFound r (held is es ls) keys item joins key → key_step k s held_after keys_after row ≡ adds false (run_open s) key
       entry-row-again p g =
           let l = looked-again item g.place p g.looked g.stored slots entries len in
           let j : joins_key s keys_after (entry_key g.place) ≡ run_open s =
           ap (joins_key s keys_after) (sym g.named) ∙ key-again r s keys key joins g.joined room runs in
-          entry-step-again s held_after keys_after g.place p l.0 l.1 j ∙ ap (Adds false (run_open s)) (sym g.named)
+          entry-step-again s held_after keys_after g.place p l.0 l.1 j ∙ ap (adds false (run_open s)) (sym g.named)
 
-      null-row-again : row ≡ null → Adds item joins key ≡ Adds false (joins_key r keys null_key) null_key → key_step k s held_after keys_after row ≡ Adds false (run_open s) key
+      null-row-again : row ≡ null → adds item joins key ≡ adds false (joins_key r keys null_key) null_key → key_step k s held_after keys_after row ≡ adds false (run_open s) key
       unfolding key_step
       null-row-again n q =
-          let z : key ≡ null_key = cc in
-          let j : joins ≡ joins_key r keys null_key = cc in
-          let a : joins_key s keys_after key ≡ run_open s = key-again r s keys key joins (j ∙ ap (joins_key r keys) (sym z)) room runs in
-          rw n (ap (λ (x : ℤ). Adds false (joins_key s keys_after x) x) (sym z) ∙ ap (λ (b : Bool). Adds false b key) a)
+          let e = adds_same q in
+          let z = e.2 in
+          let a : joins_key s keys_after key ≡ run_open s = key-again r s keys key joins (e.1 ∙ ap (joins_key r keys) (sym z)) room runs in
+          rw n (ap (λ (x : ℤ). adds false (joins_key s keys_after x) x) (sym z) ∙ ap (λ (b : Bool). adds false b key) a)
 
-      pub keys-again : Adds item joins key ≡ key_step k r (held is es ls) keys row → key_step k s held_after keys_after row ≡ Adds false (run_open s) key
+      pub keys-again : adds item joins key ≡ key_step k r (held is es ls) keys row → key_step k s held_after keys_after row ≡ adds false (run_open s) key
       unfolding key_step presence
       keys-again q = go row refl
         where
-          given : presence row ≡ 1 → key_step k s held_after keys_after row ≡ Adds false (run_open s) key
+          given : presence row ≡ 1 → key_step k s held_after keys_after row ≡ adds false (run_open s) key
           given p = entry-row-again p (entry_found r (held is es ls) keys item joins key _ refl (q ∙ value-step r (held is es ls) keys p))
 
-          go : (x : Row) → row ≡ x → key_step k s held_after keys_after row ≡ Adds false (run_open s) key
+          go : (x : Row) → row ≡ x → key_step k s held_after keys_after row ≡ adds false (run_open s) key
           go null e = null-row-again e (q ∙ ap (key_step k r (held is es ls) keys) e)
           go (int v) e = given (ap presence e)
           go (bytes bs) e = given (ap presence e)
