@@ -18,7 +18,7 @@ use Rattle.format.specs.Blocks.{column_of, block_of}
 use Rattle.format.specs.Sizes.{within_limits}
 use Rattle.append.specs.Appending.{Lent, room_of}
 use Rattle.builder.specs.declared.Builder.{Builder}
-use Rattle.builder.specs.declared.Created.TheVariants.{New}
+use Rattle.std.specs.Prelude.{Ok}
 use Rattle.builder.specs.Building.{created}
 use Rattle.builder.specs.Finishing.{finished}
 use Rattle.building_laws.specs.Built.{Given, row_in, finish_due}
@@ -80,7 +80,7 @@ module _ (k : Kind) (e : Encoding) (target key : ℕ) where
 
 -- ---- from the creation on
 module _ (kind encoding width target key : ℕ) (k : Kind) (e : Encoding) (column : column_of kind encoding width ≡ Of k e)
-    (r : Builder) (new : created kind encoding width target key ≡ New r) where
+    (r : Builder) (new : created kind encoding width target key ≡ Ok r) where
   agrees-with : (a : Lent) → Agrees k e target key [] r a
   agrees-with a = agrees_first kind encoding width target key k e column r new a
 

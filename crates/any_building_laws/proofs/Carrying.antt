@@ -17,7 +17,7 @@ use Rattle.needs.specs.declared.Counted.{Counted}
 use Rattle.needs.specs.Needs.{flagged, keyed}
 use Rattle.append.specs.Appending.{Lent}
 use Rattle.builder.specs.declared.Builder.{Builder}
-use Rattle.builder.specs.declared.Created.TheVariants.{New}
+use Rattle.std.specs.Prelude.{Ok}
 use Rattle.builder.specs.Building.{empty, created}
 use Rattle.building_laws.specs.Built.{stored_rows, stored_runs, end_slots, len_slots, Enough}
 use Rattle.building_laws.proofs.Records.{Recorded, stored-by}
@@ -154,7 +154,7 @@ none_needed k e a = record {
 }
 
 pub agrees_first : (kind encoding width target key : ℕ) (k : Kind) (e : Encoding) → column_of kind encoding width ≡ Of k e → (r : Builder)
-    → created kind encoding width target key ≡ New r → (a : Lent) → Agrees k e target key [] r a
+    → created kind encoding width target key ≡ Ok r → (a : Lent) → Agrees k e target key [] r a
 unfolding created
 agrees_first kind encoding width target key k e column r new a =
     let first = created-told (column_of kind encoding width) (empty kind encoding width target key) r k e column new in

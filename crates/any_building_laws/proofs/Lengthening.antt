@@ -18,7 +18,7 @@ use Rattle.needs.specs.declared.Counted.{Counted}
 use Rattle.needs.specs.Needs.{flagged, keyed, stored_by}
 use Rattle.append.specs.Appending.{Lent}
 use Rattle.builder.specs.declared.Builder.{Builder}
-use Rattle.builder.specs.declared.Created.TheVariants.{New}
+use Rattle.std.specs.Prelude.{Ok}
 use Rattle.builder.specs.Building.{created}
 use Rattle.building_laws.specs.Built.{stored_rows, stored_runs, end_slots, len_slots, Enough}
 use Rattle.building_laws.proofs.Records.{Recorded, stored-by}
@@ -70,7 +70,7 @@ module _ (k : Kind) (e : Encoding) (target key : ℕ) where
       (p, all-carried cs (accepted_by k e rows c.areas c.ask) (after r c.areas c.ask).builder (after r c.areas c.ask).areas t.next h.1)
 
 module _ (kind encoding width target key : ℕ) (k : Kind) (e : Encoding) (column : column_of kind encoding width ≡ Of k e)
-    (r : Builder) (new : created kind encoding width target key ≡ New r) where
+    (r : Builder) (new : created kind encoding width target key ≡ Ok r) where
   pub lengthened-is-carried : (cs : List Call) → Lengthened r cs → Carried k e r cs
   lengthened-is-carried [] h = tt
   lengthened-is-carried (c ∷ cs) h =

@@ -18,7 +18,7 @@ use Rattle.format.specs.Sizes.{within_limits}
 use Rattle.needs.specs.declared.Room.{Room}
 use Rattle.append.specs.Appending.{Lent, room_of}
 use Rattle.builder.specs.declared.Builder.{Builder}
-use Rattle.builder.specs.declared.Created.TheVariants.{New}
+use Rattle.std.specs.Prelude.{Ok}
 use Rattle.builder.specs.Building.{created}
 use Rattle.building_laws.specs.Built.{Given, row_in}
 use Rattle.any_building_laws.specs.BuilderCalls.{append, Call, appends, number_in, answer_to, after, answers, Carried, need_of, below, append_number, due}
@@ -74,7 +74,7 @@ module _ (k : Kind) (e : Encoding) (target key : ℕ) (rows : List Row) (r : Bui
 
 -- ---- from the creation on
 module _ (kind encoding width target key : ℕ) (k : Kind) (e : Encoding) (column : column_of kind encoding width ≡ Of k e)
-    (r : Builder) (new : created kind encoding width target key ≡ New r) where
+    (r : Builder) (new : created kind encoding width target key ≡ Ok r) where
   module _ (cs : List Call) (carried : Carried k e r cs) (a : Lent) (n : ℕ) (v : Given) (more : Lent) where
     there : Agrees k e target key (accepted_in k e [] cs) (after_all r a cs).builder (after_all r a cs).areas
     there = agrees-after-any-calls kind encoding width target key k e column r new cs carried a

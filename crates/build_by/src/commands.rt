@@ -1,7 +1,8 @@
 // Commands on the record, on what is lent and on what is shown.
 use crate::State;
-use builder::{Builder, Created};
+use builder::Builder;
 use cells::Lent;
+use limits::refusal::Refusal;
 use script::{number, past, say, show, show_byte, show_size};
 use trial::{show_bool, show_builder};
 
@@ -74,16 +75,16 @@ fn set(s: &[u8], state: State) -> State {
     )
 }
 
-fn created(answer: Created) -> Builder {
+fn created(answer: Result<Builder, Refusal>) -> Builder {
     say(b"create");
     match answer {
-        Created::New(b) => {
+        Ok(b) => {
             show(0);
             show_builder(b);
             b
         }
-        Created::Refused(number) => {
-            show_byte(number);
+        Err(refusal) => {
+            show_byte(u8::from(refusal));
             trial::no_builder()
         }
     }

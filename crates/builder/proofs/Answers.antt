@@ -1,4 +1,5 @@
 -- The answers of creation, append, estimate and should_finish, on each way through the code. Assumes nothing.
+use Rattle.step.specs.Counting.{Next}
 use Prim.Native.Nat.{ℕ}
 use mathlib.Core.Path.{◌≡◌, refl, sym, ap, subst, ◌∙◌}
 use mathlib.Core.Bool.{Bool, true, false}
@@ -16,23 +17,22 @@ use Rattle.format.specs.declared.Column.TheVariants.{Of, Unknown}
 use Rattle.format.specs.Blocks.{column_of}
 use Rattle.needs.specs.Needs.{record_wrong}
 use Rattle.sizes.specs.Sizes.{size_by, full_by}
-use Rattle.step.specs.declared.Next.{Next}
 use Rattle.append.specs.Appending.{Lent, lent, Added, added_to}
 use Rattle.copies.specs.Copies.{added_times}
 use Rattle.copies_laws.proofs.Answers.{once, copies-refused-keep}
 use Rattle.builder.specs.declared.Builder.{Builder}
-use Rattle.builder.specs.declared.Created.TheVariants.{New, Refused}
+use Rattle.std.specs.Prelude.{Ok, Err}
 use Rattle.builder.specs.declared.Appended.{Appended}
 use Rattle.builder.specs.Building.{empty, created_in, created, counting, Append, append_with, appended_in, appended, appended_times_in, appended_times}
 use Rattle.builder.specs.Finishing.{estimated_as, estimated_in, estimated, asked_as, asked_in, asked}
 
 -- ---- creation
 module _ (kind encoding width target key : ℕ) {c : Column} (p : c ≡ column_of kind encoding width) where
-  pub refused : c ≡ Unknown → Refused COLUMN ≡ created kind encoding width target key
+  pub refused : c ≡ Unknown → Err COLUMN ≡ created kind encoding width target key
   unfolding created created_in
   refused q = rw (← p, q)
 
-  pub new : {k : Kind} {e : Encoding} → c ≡ Of k e → {r : Builder} → r ≡ empty kind encoding width target key → New r ≡ created kind encoding width target key
+  pub new : {k : Kind} {e : Encoding} → c ≡ Of k e → {r : Builder} → r ≡ empty kind encoding width target key → Ok r ≡ created kind encoding width target key
   unfolding created created_in
   new q h = rw (h, ← p, q)
 

@@ -1,6 +1,6 @@
 -- 01, "Building": creation and append as functions of the record, the row and what the lent areas hold, for every record and all memory. Assumes
 -- nothing.
-use Rattle.std.specs.Prelude.{ℕ, Bool, List, ℤ}
+use Rattle.std.specs.Prelude.{ℕ, Result, Ok, Err, Bool, List, ℤ}
 use Rattle.limits.specs.Refusals.{COLUMN, DISAGREE}
 use Rattle.plain.specs.Rows.{row_of}
 use Rattle.format.specs.declared.Column.{Column}
@@ -10,8 +10,6 @@ use Rattle.needs.specs.declared.Counted.{Counted}
 use Rattle.append.specs.Appending.{Lent, Added, added}
 use Rattle.copies.specs.Copies.{added_times}
 use Rattle.builder.specs.declared.Builder.{Builder}
-use Rattle.builder.specs.declared.Created.{Created}
-use Rattle.builder.specs.declared.Created.TheVariants.{New, Refused}
 use Rattle.builder.specs.declared.Appended.{Appended}
 
 -- ---- creation, with a target and a target of the keys: a record with nothing counted, or 1
@@ -22,11 +20,11 @@ abbrev pub empty : ℕ → ℕ → ℕ → ℕ → ℕ → Builder
 empty kind encoding width target key =
     record { kind = kind; encoding = encoding; width = width; target = target; keytarget = key; counted = none_counted }
 
-unfoldable pub created_in : Column → Builder → Created
-created_in Unknown r = Refused COLUMN
-created_in (Of k e) r = New r
+unfoldable pub created_in : Column → Builder → Result Builder ℕ
+created_in Unknown r = Err COLUMN
+created_in (Of k e) r = Ok r
 
-unfoldable pub created : ℕ → ℕ → ℕ → ℕ → ℕ → Created
+unfoldable pub created : ℕ → ℕ → ℕ → ℕ → ℕ → Result Builder ℕ
 created kind encoding width target key = created_in (column_of kind encoding width) (empty kind encoding width target key)
 
 -- ---- append: 9 for the record, the areas and the fields, 2, 3, 4; a refusal gives back what it was given

@@ -89,19 +89,17 @@ impl Builder {
             };
         };
         let c = self.counted;
-        let next = append_block::to_block(
+        match append_block::to_block(
             c, kind, encoding, items, ends, flags, counts, keys, lens, present, value, item, times,
-        );
-        if next.number != 0 {
-            return Appended {
-                number: next.number,
+        ) {
+            Ok(counted) => Appended {
+                number: 0,
+                builder: self.counting(counted),
+            },
+            Err(refusal) => Appended {
+                number: u8::from(refusal),
                 builder: self,
-            };
-        }
-        let counted = next.counted;
-        Appended {
-            number: 0,
-            builder: self.counting(counted),
+            },
         }
     }
 }

@@ -6,9 +6,11 @@ mod finishing;
 mod sizing;
 
 ghost use Rattle.std.specs.Prelude.{◌≡◌};
+ghost use Rattle.limits.specs.Refusals.{by_number};
 ghost use Rattle.builder.specs.Building.{empty, created, counting};
 
 use format::Column;
+use limits::refusal::Refusal;
 use needs::Counted;
 
 // A builder: what creation was given, and what was appended so far. Any numbers can stand here.
@@ -21,13 +23,6 @@ pub struct Builder {
     pub target: usize,
     pub keytarget: usize,
     pub counted: Counted,
-}
-
-// What creation answers: a refused column has no builder.
-#[derive(Clone, Copy)]
-pub enum Created {
-    New(Builder),
-    Refused(u8),
 }
 
 // What an append answers: 0 and the next builder, or a refusal with the builder as it was.
@@ -102,9 +97,9 @@ impl Builder {
     }
 }
 
-// A builder of a column, with nothing appended. Its target is that of a dictionary's keys too.
-pub fn create(kind: usize, encoding: usize, width: usize, target: usize) -> Created
-    ensures { result ≡ created kind encoding width target target }
+// A builder of a column, with nothing appended; a refused column has none. Its target is that of a dictionary's keys too.
+pub fn create(kind: usize, encoding: usize, width: usize, target: usize) -> Result<Builder, Refusal>
+    ensures { by_number result ≡ created kind encoding width target target }
 {
     create_with_key_target(kind, encoding, width, target, target)
 }
@@ -116,8 +111,8 @@ pub fn create_with_key_target(
     width: usize,
     target: usize,
     keytarget: usize,
-) -> Created
-    ensures { result ≡ created kind encoding width target keytarget }
+) -> Result<Builder, Refusal>
+    ensures { by_number result ≡ created kind encoding width target keytarget }
 {
     let column = format::column_of(kind, encoding, width);
     let Column::Of {
@@ -125,7 +120,7 @@ pub fn create_with_key_target(
         encoding: _,
     } = column
     else {
-        return Created::Refused(limits::refusal::COLUMN);
+        return Err(Refusal::Column);
     };
-    Created::New(Builder::new(kind, encoding, width, target, keytarget))
+    Ok(Builder::new(kind, encoding, width, target, keytarget))
 }

@@ -16,7 +16,7 @@ use Rattle.format.specs.Sizes.{estimate_of, stored_items}
 use Rattle.needs.specs.Needs.{coded}
 use Rattle.append.specs.Appending.{Lent}
 use Rattle.builder.specs.declared.Builder.{Builder}
-use Rattle.builder.specs.declared.Created.TheVariants.{New}
+use Rattle.std.specs.Prelude.{Ok}
 use Rattle.builder.specs.declared.Finished.{Finished}
 use Rattle.builder.specs.Building.{created}
 use Rattle.builder.specs.Finishing.{finished, estimated_as, estimated}
@@ -56,7 +56,7 @@ module _ (k : Kind) (e : Encoding) (rows : List Row) where
 
 -- ---- from the creation on
 module _ (kind encoding width target key : ℕ) (k : Kind) (e : Encoding) (column : column_of kind encoding width ≡ Of k e)
-    (r : Builder) (new : created kind encoding width target key ≡ New r) (cs : List Call) (carried : Carried k e r cs) (a : Lent) where
+    (r : Builder) (new : created kind encoding width target key ≡ Ok r) (cs : List Call) (carried : Carried k e r cs) (a : Lent) where
   abbrev rows : List Row
   rows = accepted_in k e [] cs
 

@@ -9,7 +9,7 @@ ghost use Rattle.lookup.specs.Held.{held, item_start, held_row, look_up};
 ghost use Rattle.lookup.specs.First.{first_value, first_number};
 ghost use Rattle.lookup.specs.Asking.{FieldsThere, BytesThere, ItemThere};
 
-use crate::{Looked, fields};
+use crate::fields;
 use encode::{Kind, Primitive, Shape};
 
 // ---- equal as given
@@ -171,8 +171,8 @@ fn held_len(w: u8, len: usize) -> usize
     len
 }
 
-// The first of `n` char items that is `item`, which becomes the next if it is new; or a length above the width up to there.
-fn find_char(w: u8, items: &[u8], lens: &[u8], n: usize, item: &[u8]) -> Looked
+// The first of `n` char items that is `item`, which becomes the next if it is new; none if a length up to there is above the width.
+fn find_char(w: u8, items: &[u8], lens: &[u8], n: usize, item: &[u8]) -> Option<usize>
     requires { (n ≤ MOST_ITEMS) × (n ≤ length lens.now) × (n * w ≤ length items.now) }
     ensures { result ≡ look_up (Char w) n 0 (held items.now [] lens.now) (bytes item.now) }
 {
@@ -182,23 +182,23 @@ fn find_char(w: u8, items: &[u8], lens: &[u8], n: usize, item: &[u8]) -> Looked
         let l = lens[i];
         if l as usize == len {
             if same_as(items, i * (w as usize), item) {
-                return Looked::Entry(i);
+                return Some(i);
             }
         } else if w < l {
-            return Looked::Bad;
+            return None;
         }
         i += 1;
     }
-    Looked::Entry(n)
+    Some(n)
 }
 
-// The same of blob items, of `len` bytes in all; or a wrong end up to there.
-fn find_blob(items: &[u8], len: usize, ends: &[u32], n: usize, item: &[u8]) -> Looked
+// The same of blob items, of `len` bytes in all; none if an end up to there is wrong.
+fn find_blob(items: &[u8], len: usize, ends: &[u32], n: usize, item: &[u8]) -> Option<usize>
     requires { (n ≤ length ends.now) × (len ≤ length items.now) }
     ensures { result ≡ look_up blob n len (held items.now ends.now []) (bytes item.now) }
 {
     if n == 0 {
-        return Looked::Entry(n);
+        return Some(n);
     }
     let last = n - 1;
     let mut i = 0;
@@ -206,27 +206,28 @@ fn find_blob(items: &[u8], len: usize, ends: &[u32], n: usize, item: &[u8]) -> L
     while i < last {
         let end = fields::end_in(ends, i);
         if end < from {
-            return Looked::Bad;
+            return None;
         }
         if len < end {
-            return Looked::Bad;
+            return None;
         }
         if same_bytes(items, from, end - from, item) {
-            return Looked::Entry(i);
+            return Some(i);
         }
         from = end;
         i += 1;
     }
     if fields::blob_wrong(n, len, ends, i, from) {
-        return Looked::Bad;
+        return None;
     }
     if same_blob(items, ends, i, from, item) {
-        return Looked::Entry(i);
+        return Some(i);
     }
-    Looked::Entry(n)
+    Some(n)
 }
 
-// Which of `n` entries, of `len` bytes in all, a row is that is not null.
+// Which of `n` entries, of `len` bytes in all, a row is that is not null: the place of the first that equals it, which for a new
+// row is the next; or none, if an entry up to there has a wrong field.
 pub fn look_up(
     kind: Kind,
     n: usize,
@@ -236,12 +237,12 @@ pub fn look_up(
     lens: &[u8],
     value: i64,
     item: &[u8],
-) -> Looked
+) -> Option<usize>
     requires { (n ≤ MOST_ITEMS) × FieldsThere kind n (held items.now ends.now lens.now) × BytesThere kind n len (held items.now ends.now lens.now) }
     ensures { result ≡ look_up kind n len (held items.now ends.now lens.now) (value_of kind value item.now) }
 {
     match kind {
-        Kind::Fixed(p) => Looked::Entry(find_fixed(p, items, n, value)),
+        Kind::Fixed(p) => Some(find_fixed(p, items, n, value)),
         Kind::Char(w) => find_char(w, items, lens, n, item),
         Kind::Blob(_) => find_blob(items, len, ends, n, item),
     }

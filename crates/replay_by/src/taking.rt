@@ -1,5 +1,6 @@
 // What commands give: a column and a target, equal rows.
-use builder::{Builder, Created};
+use builder::Builder;
+use limits::refusal::Refusal;
 use read_back::{Named, named_at, show_named};
 use script::{first, number, past, refused, rest, show_size};
 use trial::Rows;
@@ -25,11 +26,11 @@ pub fn plan_at(s: &[u8], at: usize) -> Plan {
     }
 }
 
-fn created(answer: Created) -> Builder {
+fn created(answer: Result<Builder, Refusal>) -> Builder {
     match answer {
-        Created::New(builder) => builder,
-        Created::Refused(number) => {
-            refused(number);
+        Ok(builder) => builder,
+        Err(refusal) => {
+            refused(u8::from(refusal));
             trial::no_builder()
         }
     }

@@ -2,7 +2,7 @@
 // and writes a line for each call. The file stdout has what the definitions say of them.
 #![tactic(auto)]
 
-use builder::{Builder, Created};
+use builder::Builder;
 use script::say;
 use show_server::append;
 use show_view::{byte, reads, size};
@@ -86,12 +86,11 @@ fn appends(builder: Builder) {
 }
 
 fn main() {
-    let created = builder::create(2, 2, 0, 1000);
-    match created {
-        Created::New(builder) => {
+    match builder::create(2, 2, 0, 1000) {
+        Ok(builder) => {
             appends(builder);
         }
-        Created::Refused(_) => {
+        Err(_) => {
             say(b"refused\n");
         }
     }

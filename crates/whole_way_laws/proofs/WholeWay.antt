@@ -12,7 +12,7 @@ use Rattle.format.specs.declared.Column.TheVariants.{Of}
 use Rattle.format.specs.Blocks.{column_of, block_of, stored_form}
 use Rattle.append.specs.Appending.{Lent}
 use Rattle.builder.specs.declared.Builder.{Builder}
-use Rattle.builder.specs.declared.Created.TheVariants.{New}
+use Rattle.std.specs.Prelude.{Ok}
 use Rattle.builder.specs.Building.{created}
 use Rattle.builder.specs.Finishing.{Finish}
 use Rattle.building_laws.specs.Built.{finish_due}
@@ -29,7 +29,7 @@ use Rattle.whole_way_laws.proofs.Written.{done-if-held, short-if-not, held-if-do
 use Rattle.whole_way_laws.proofs.CountedRows.{done-among-expected}
 
 module _ (kind encoding width target key : ℕ) (k : Kind) (e : Encoding) (column : column_of kind encoding width ≡ Of k e)
-    (r : Builder) (new : created kind encoding width target key ≡ New r) where
+    (r : Builder) (new : created kind encoding width target key ≡ Ok r) where
   -- The rows accepted are those whose append was answered with 0, in order; so a caller who counts these answers opens with the number of rows accepted.
   pub accepted-as-answered : (cs : List BuilderCall) → Carried k e r cs → accepted_in k e [] cs ≡ rows_done k cs (answers r cs)
   accepted-as-answered cs h = rw (any-building-calls kind encoding width target key k e column r new cs h) (done-among-expected k e target key cs [])

@@ -3,7 +3,7 @@
 // the block. The file stdout has the figures of the theorems.
 #![tactic(auto)]
 
-use builder::{Builder, Created};
+use builder::Builder;
 use script::{first, refused, say};
 use show_view::size;
 
@@ -80,13 +80,12 @@ fn witness(encoding: usize, present: bool, n: usize) {
     say(b" rows");
     size(n);
     say(b":");
-    let created = builder::create(0, encoding, 0, 1000);
-    match created {
-        Created::New(builder) => {
+    match builder::create(0, encoding, 0, 1000) {
+        Ok(builder) => {
             append(builder, present, n);
         }
-        Created::Refused(number) => {
-            refused(number);
+        Err(refusal) => {
+            refused(u8::from(refusal));
         }
     }
     say(b"\n");
