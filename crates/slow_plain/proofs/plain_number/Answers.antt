@@ -1,15 +1,13 @@
 -- `plain_number` meets its contract: the rules of lengths and ends, then text. Assumes nothing.
 use mathlib.Core.Path.{◌≡◌, sym, ◌∙◌}
 use native.Mathlib.Omega.{arith}
-use Rattle.std.proofs.lemmas.Result.{err_from_is_err_and}
 use Rattle.plain.proofs.Numbers.{lengths-broken, all-text, not-text}
-use Rattle.slow_plain.proofs.Refused.{refusal-some}
+use Rattle.slow_plain.proofs.Refused.{refusal-some, passed-on}
 use Rattle.slow_plain.proofs.plain_number.Goals as goal
 
 pub returns-in_err-lengths_number : goal.returns-in_err-lengths_number
 returns-in_err-lengths_number c =
-    let p = err_from_is_err_and c.from_residual.result c.from_residual.ensures.1 in
-    rw (p.1, p.2) (lengths-broken _ _ _ c.in_err-lengths_number.ensures (refusal-some _))
+    passed-on _ _ c.from_residual.ensures.1 ∙ lengths-broken _ _ _ c.in_err-lengths_number.ensures (refusal-some _)
 
 pub is_text-requires : goal.is_text-requires
 is_text-requires c = (omega arith, sym c.in_ok-lengths_number.ensures)
