@@ -16,12 +16,7 @@ use limits::refusal::Refusal;
 // Each answers how many bytes of char, blob or string it wrote.
 
 // An integer and its flag.
-fn give_value(
-    value: i64,
-    flag: u8,
-    values: &mut [i64],
-    flags: &mut [u8],
-) -> Result<usize, Refusal>
+fn give_value(value: i64, flag: u8, values: &mut [i64], flags: &mut [u8]) -> Result<usize, Refusal>
     ensures { GivesInt value flag values.old flags.old result values.new flags.new }
 {
     if flags.len() == 0 {

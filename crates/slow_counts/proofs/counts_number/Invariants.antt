@@ -6,4 +6,3 @@ use Rattle.slow_counts.proofs.counts_number.Given as goal
 
 abbrev pub invariant-loop-i : goal.invariant-loop-i
 invariant-loop-i l = Walking l.counts l.runs l.at l.sum (l.runs - l.i)
-

@@ -5,4 +5,3 @@ use Rattle.slow_counts.proofs.run_of.Given as goal
 
 abbrev pub invariant-loop-run : goal.invariant-loop-run
 invariant-loop-run l = Leaving l.counts l.runs l.row l.left l.at l.run
-
