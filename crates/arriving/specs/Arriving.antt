@@ -17,8 +17,7 @@ use Rattle.dict.specs.Dictionary.{slot_at}
 use Rattle.format.specs.declared.Encoding.{Encoding}
 use Rattle.format.specs.declared.Encoding.TheVariants.{Plain, Nullable, RunLength, RunLengthNullable, Dictionary}
 use Rattle.format.specs.Opening.{most_rows}
-use Rattle.arriving.specs.declared.Stage.{Stage}
-use Rattle.arriving.specs.declared.Stage.TheVariants.{Done, KeyLength, Entries, RunHead, Counts, Keys, Ends, Chars, Trailer}
+use Rattle.arriving.specs.Stages.{Stage, Done, KeyLength, Entries, RunHead, Counts, Keys, Ends, Chars, Trailer}
 
 -- what is waited for: a stage, and the bytes of a field of it that have come
 pub record Waiting : Type 0 where

@@ -20,7 +20,7 @@ use Rattle.format.specs.declared.Encoding.TheVariants.{Plain, Nullable, RunLengt
 use Rattle.format.specs.declared.Column.TheVariants.{Of}
 use Rattle.format.specs.Opening.{most_rows, rules_of, column_number}
 use Rattle.format.proofs.Answers.{first_one}
-use Rattle.arriving.specs.declared.Stage.TheVariants.{Done, KeyLength}
+use Rattle.arriving.specs.Stages.{Done, KeyLength}
 use Rattle.arriving.specs.Arriving.{trailed, began_by, began}
 use Rattle.arriving_laws.specs.Owed.{trailed_by, runs_owed, owed_by, tail_of, coded, Fits, Checked}
 use Rattle.arriving_laws.proofs.Plains.{plain-owed, plain_fits, nullable-owed, nullable-fits}

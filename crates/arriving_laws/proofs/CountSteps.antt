@@ -24,8 +24,7 @@ use Rattle.rle.proofs.Walking.{plus-plus}
 use Rattle.format.specs.declared.Encoding.{Encoding}
 use Rattle.format.specs.declared.Encoding.TheVariants.{Dictionary}
 use Rattle.format.proofs.Answers.{first_one}
-use Rattle.arriving.specs.declared.Stage.{Stage}
-use Rattle.arriving.specs.declared.Stage.TheVariants.{Done, Counts}
+use Rattle.arriving.specs.Stages.{Stage, Done, Counts}
 use Rattle.arriving.specs.Arriving.{Waiting, waiting, inner_from, count_read, counted, stepped_by}
 use Rattle.arriving_laws.specs.Owed.{inner_owed, owed_by, owed, Unended, coded, Fits, Checked}
 use Rattle.arriving_laws.proofs.Steps.{StepOwed, StepFits}

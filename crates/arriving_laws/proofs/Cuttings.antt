@@ -9,7 +9,7 @@ use Rattle.plain.specs.Plain.{joined}
 use Rattle.format.specs.declared.Encoding.{Encoding}
 use Rattle.format.specs.declared.Column.TheVariants.{Of}
 use Rattle.format.specs.Opening.{column_number}
-use Rattle.arriving.specs.declared.Stage.TheVariants.{Done}
+use Rattle.arriving.specs.Stages.{Done}
 use Rattle.arriving.specs.Arriving.{Waiting, waiting, began, stepped, fed}
 use Rattle.arriving_laws.specs.Owed.{Checked}
 use Rattle.arriving_laws.specs.Cuttings.{together, fed_all}

@@ -24,7 +24,7 @@ use Rattle.dict.specs.Dictionary.{i32, known, keys_number}
 use Rattle.format.specs.declared.Encoding.{Encoding}
 use Rattle.format.specs.declared.Encoding.TheVariants.{Plain, Nullable, RunLength, RunLengthNullable, Dictionary}
 use Rattle.format.proofs.Answers.{first_one}
-use Rattle.arriving.specs.declared.Stage.TheVariants.{Done, RunHead, Counts}
+use Rattle.arriving.specs.Stages.{Done, RunHead, Counts}
 use Rattle.arriving.specs.Arriving.{Waiting, head_read, field_of, acted, stepped_by}
 use Rattle.arriving_laws.specs.Owed.{keys_then, runs_owed, inner_owed, owed_by, owed, coded, Unended, Fits}
 use Rattle.arriving_laws.proofs.Fields.{one_more, length_more, pushed-either}

@@ -8,8 +8,7 @@ use Rattle.encode.specs.declared.Kind.{Kind}
 use Rattle.format.specs.declared.Encoding.{Encoding}
 use Rattle.format.specs.declared.Column.TheVariants.{Of}
 use Rattle.format.specs.Opening.{column_number}
-use Rattle.arriving.specs.declared.Stage.{Stage}
-use Rattle.arriving.specs.declared.Stage.TheVariants.{Done, KeyLength, Entries, RunHead, Counts, Keys, Ends, Chars, Trailer}
+use Rattle.arriving.specs.Stages.{Stage, Done, KeyLength, Entries, RunHead, Counts, Keys, Ends, Chars, Trailer}
 use Rattle.arriving.specs.Arriving.{Waiting, waiting, began, stepped_by, stepped, fed}
 use Rattle.arriving_laws.specs.Owed.{owed_by, owed, Fits, Checked}
 use Rattle.arriving_laws.proofs.Steps.{StepOwed, StepFits}

@@ -1,7 +1,8 @@
 -- 02 (xiii): row r of a block, found from the block's start, with no reader kept. Refusals: opening's, then 7 for r at or above n, then 4. It is given in the
 -- form of a read of one row. Assumes nothing.
-use Rattle.std.specs.Prelude.{ℕ, zero, suc, cond, List, [], ◌∷◌, leb, get_or}
-use Rattle.limits.specs.Refusals.{COLUMN, ROOM, TOO_FAR}
+use Rattle.std.specs.Prelude.{ℕ, zero, suc, cond, List, [], ◌∷◌, leb, get_or, Result, Ok, Err}
+use Rattle.limits.specs.Refusals.{COLUMN, ROOM, TOO_FAR, refusal_number}
+use Rattle.limits.specs.declared.refusal.Refusal.{Refusal}
 use Rattle.encode.specs.declared.Kind.{Kind}
 use Rattle.plain.specs.Rows.{Row, null}
 use Rattle.format.specs.declared.Column.{Column}
@@ -20,6 +21,11 @@ pub record Shown : Type 0 where
 
 abbrev pub row_given : ℕ → ℕ → RowGiven
 row_given number bytes = record { number = number; bytes = bytes }
+
+-- what the bytes written, or a refusal, come back as
+abbrev pub answer_of : Result ℕ Refusal → RowGiven
+answer_of (Ok bytes) = row_given 0 bytes
+answer_of (Err e) = row_given (refusal_number e) 0
 
 abbrev pub refused_row : ℕ → Areas → Shown
 refused_row e a = record { answer = row_given e 0; areas = a }

@@ -6,6 +6,8 @@ use mathlib.Core.List.{List}
 use mathlib.Core.Path.{◌≡◌, refl, sym, ap, subst, ◌∙◌}
 use lib.IntN.{ℤ}
 use lib.ListN.{length}
+use Rattle.std.specs.Prelude.{Result}
+use Rattle.limits.specs.declared.refusal.Refusal.{Refusal}
 use Rattle.encode.specs.Kinds.{width_of}
 use Rattle.encode.specs.declared.Primitive.{Primitive}
 use Rattle.encode.specs.declared.Kind.{Kind}
@@ -17,13 +19,12 @@ use Rattle.plain.proofs.Numbers.{plain-least}
 use Rattle.plain.proofs.Ranges.{least-found}
 use Rattle.dict.specs.Dictionary.{entry_row}
 use Rattle.fill.specs.Areas.{Areas, is_bytes}
-use Rattle.slow_answer.specs.declared.RowGiven.{RowGiven}
 use Rattle.slow_answer.specs.Slow.{shown_in}
 use Rattle.slow_giving.specs.Giving.{Gives}
 
 -- what is given of a row is given of one that equals it
-pub given-as : (k : Kind) (a : Areas) {row due : Row} {x : RowGiven} {after : Areas} → row ≡ due → Gives x after (shown_in k row a) → Gives x after (shown_in k due a)
-given-as k a {row} {due} {x} {after} e g = subst (λ (r : Row). Gives x after (shown_in k r a)) e g
+pub given-as : (k : Kind) (a : Areas) {row due : Row} (x : Result ℕ Refusal) {after : Areas} → row ≡ due → Gives x after (shown_in k row a) → Gives x after (shown_in k due a)
+given-as k a {row} {due} x {after} e g = subst (λ (r : Row). Gives x after (shown_in k r a)) e g
 
 module _ (k : Kind) (n : ℕ) (s : List ℕ) (slot : ℕ) where
   pub null-shown : slot ≡ 0 → null ≡ entry_row k n s slot

@@ -7,26 +7,27 @@ ghost use Rattle.plain.specs.Rows.{null};
 ghost use Rattle.plain.specs.Plain.{plain_number};
 ghost use Rattle.dict.specs.Dictionary.{entry_row};
 ghost use Rattle.fill.specs.Areas.{areas};
-ghost use Rattle.slow_answer.specs.Slow.{shown_in};
+ghost use Rattle.slow_answer.specs.Slow.{answer_of, shown_in};
 ghost use Rattle.slow_giving.specs.Giving.{Gives, GivesInt, GivesBytes};
 
 use encode::Kind;
-use limits::refusal;
-use slow_answer::RowGiven;
+use limits::refusal::Refusal;
+
+// Each answers how many bytes of char, blob or string it wrote.
 
 // An integer and its flag.
-fn give_value(value: i64, flag: u8, values: &mut [i64], flags: &mut [u8]) -> RowGiven
+fn give_value(value: i64, flag: u8, values: &mut [i64], flags: &mut [u8]) -> Result<usize, Refusal>
     ensures { GivesInt value flag values.old flags.old result values.new flags.new }
 {
     if flags.len() == 0 {
-        return slow_answer::without_bytes(refusal::ROOM);
+        return Err(Refusal::Room);
     }
     if values.len() == 0 {
-        return slow_answer::without_bytes(refusal::ROOM);
+        return Err(Refusal::Room);
     }
     values[0] = value;
     flags[0] = flag;
-    slow_answer::without_bytes(0)
+    Ok(0)
 }
 
 // Bytes, their end and their flag.
@@ -38,31 +39,24 @@ fn give_bytes(
     flags: &mut [u8],
     ends: &mut [u32],
     bytes: &mut [u8],
-) -> RowGiven
+) -> Result<usize, Refusal>
     requires { (from + len ≤ length s.now) × (len ≤ MOST_BYTES) }
     ensures { GivesBytes (take len (drop from s.now)) flag flags.old ends.old bytes.old result
         flags.new ends.new bytes.new }
 {
     if flags.len() == 0 {
-        return slow_answer::without_bytes(refusal::ROOM);
+        return Err(Refusal::Room);
     }
     if ends.len() == 0 {
-        return slow_answer::without_bytes(refusal::ROOM);
+        return Err(Refusal::Room);
     }
     if bytes.len() < len {
-        return slow_answer::without_bytes(refusal::ROOM);
+        return Err(Refusal::Room);
     }
-    let mut i = 0;
-    while i < len {
-        bytes[i] = s[from + i];
-        i += 1;
-    }
+    bytes[..len].copy_from_slice(&s[from..from + len]);
     ends[0] = len as u32;
     flags[0] = flag;
-    RowGiven {
-        number: 0,
-        bytes: len,
-    }
+    Ok(len)
 }
 
 // What entry `slot` of a plain block of `n` items shows, from 1 on; 0 is null.
@@ -75,9 +69,9 @@ pub fn give(
     flags: &mut [u8],
     ends: &mut [u32],
     bytes: &mut [u8],
-) -> RowGiven
+) -> Result<usize, Refusal>
     requires { (n ≤ MOST_ITEMS) × (length s.now ≤ MOST_BYTES) × (plain_number kind n s.now ≡ 0) × (slot ≤ n) }
-    ensures value { result ≡ (shown_in kind (entry_row kind n s.now slot) (areas values.old flags.old ends.old bytes.old)).answer }
+    ensures value { answer_of result ≡ (shown_in kind (entry_row kind n s.now slot) (areas values.old flags.old ends.old bytes.old)).answer }
     ensures bytes_after { areas values.new flags.new ends.new bytes.new
         ≡ (shown_in kind (entry_row kind n s.now slot) (areas values.old flags.old ends.old bytes.old)).areas }
 {
@@ -104,7 +98,7 @@ fn give_null(
     flags: &mut [u8],
     ends: &mut [u32],
     bytes: &mut [u8],
-) -> RowGiven
+) -> Result<usize, Refusal>
     ensures { Gives result (areas values.new flags.new ends.new bytes.new)
         (shown_in kind null (areas values.old flags.old ends.old bytes.old)) }
 {

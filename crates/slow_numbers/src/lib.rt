@@ -21,11 +21,9 @@ pub fn number_at(s: &[u8], at: usize, w: usize, high: bool) -> u64
     ensures { (result ≡ number_of (order_by high) (take w (drop at s.now))) × (result < 256 ^ w) }
 {
     let mut n: u64 = 0;
-    let mut i = 0;
-    while i < w {
+    for i in 0..w {
         let from = place(at, w, high, i);
         n = n * 256 + wide(s[from]);
-        i += 1;
     }
     n
 }
@@ -49,8 +47,7 @@ pub fn count_at(s: &[u8], at: usize) -> Count
 {
     let mut value: u64 = 0;
     let mut worth: u64 = 1;
-    let mut i = 0;
-    while i < 5 {
+    for i in 0..5 {
         if s.len() - at <= i {
             return Count::Bad;
         }
@@ -60,7 +57,6 @@ pub fn count_at(s: &[u8], at: usize) -> Count
         }
         value += (b - 128) * worth;
         worth *= 128;
-        i += 1;
     }
     Count::Bad
 }

@@ -83,10 +83,8 @@ pub fn is_text(s: &[u8], from: usize, n: usize) -> bool
     ensures { result ≡ is_text (take n (drop from s.now)) }
 {
     let mut d = asks(0, 0, 0);
-    let mut i = 0;
-    while i < n {
+    for i in 0..n {
         d = next(d, s[from + i]);
-        i += 1;
     }
     d.left == 0
 }

@@ -1,4 +1,4 @@
--- `counts_number` meets its contract. The loop keeps that the sum so far and the walk over the rest are the whole; the measure is the runs left. Assumes
+-- `counts_number` meets its contract. The loop keeps that the sum so far and the walk over the rest are the whole. Assumes
 -- nothing.
 use Prim.Native.Nat.{◌-◌}
 use native.Mathlib.Omega.{arith}

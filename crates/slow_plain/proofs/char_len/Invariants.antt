@@ -6,6 +6,3 @@ use Rattle.slow_plain.proofs.char_len.Given as goal
 
 abbrev pub invariant-loop-len : goal.invariant-loop-len
 invariant-loop-len l = Uncut l.w l.s l.i l.from l.len
-
-abbrev pub decreases-loop-len : goal.decreases-loop-len
-decreases-loop-len l = l.w - l.len

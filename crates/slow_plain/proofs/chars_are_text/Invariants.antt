@@ -7,6 +7,3 @@ use Rattle.slow_plain.proofs.chars_are_text.Given as goal
 
 abbrev pub invariant-loop-i : goal.invariant-loop-i
 invariant-loop-i l = Left (λ j. is_text (char_at l.w l.s j)) l.n l.i
-
-abbrev pub decreases-loop-i : goal.decreases-loop-i
-decreases-loop-i l = l.n - l.i

@@ -5,6 +5,3 @@ use Rattle.slow_rules.proofs.keys_known.Given as goal
 
 abbrev pub invariant-loop-i : goal.invariant-loop-i
 invariant-loop-i l = laws.Looking l.entries l.keys l.n l.i
-
-abbrev pub decreases-loop-i : goal.decreases-loop-i
-decreases-loop-i l = l.n - l.i
