@@ -11,7 +11,6 @@ ghost use Rattle.printing.specs.Printing.{refusal_of, next_row, rows_refused, li
 use block::{Given, Opened, Reader};
 use encode::{FoundKind, Kind};
 use limits::refusal;
-use text::Made;
 
 // Lists the input on standard output. What comes back is 0 or the number that was printed behind `refused`.
 pub fn print(input: &[u8]) -> u8
@@ -160,8 +159,8 @@ fn say_next(
 }
 
 // The row's index and its text, which the room always holds.
-fn say_row(index: usize, made: Made, text: &[u8]) {
-    let Made::Text(n) = made else {
+fn say_row(index: usize, made: Option<usize>, text: &[u8]) {
+    let Some(n) = made else {
         return;
     };
     io::print_decimal(1, index as u64);
