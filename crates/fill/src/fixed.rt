@@ -9,7 +9,6 @@ use anatomy::Parts;
 use encode::Primitive;
 use limits::refusal;
 use rle::Spot;
-use source::Weighed;
 
 // Rows of a fixed kind that are not coded by runs: there is nothing to look at, and no loop asks for the kind.
 pub fn give_items(
@@ -55,8 +54,8 @@ pub fn give_values(
     ensures values_after { values.new ≡ (fixed_filling parts from block.now n values.old flags.old).areas.values }
     ensures flags_after { flags.new ≡ (fixed_filling parts from block.now n values.old flags.old).areas.flags }
 {
-    let weighed = part_rows::weigh_rows(parts, from, block, n);
-    let Weighed::Total { bytes: _, next } = weighed else {
+    let looked = part_rows::weigh_rows(parts, from, block, n);
+    let Some(weighed) = looked else {
         return refused(refusal::DISAGREE, from);
     };
     if values.len() < n {
@@ -70,6 +69,6 @@ pub fn give_values(
     Filled {
         number: 0,
         bytes: 0,
-        next,
+        next: weighed.next,
     }
 }

@@ -8,7 +8,6 @@ use crate::{Filled, refused};
 use anatomy::Parts;
 use limits::refusal;
 use rle::Spot;
-use source::Weighed;
 
 // The width of char items that are a row each, with no marks, if the room holds what the next `n` rows take at most; or 0.
 fn roomy_width(
@@ -82,10 +81,11 @@ fn give_weighed(
     ensures ends_after { ends.new ≡ (text_filling parts from block.now n flags.old ends.old bytes.old).areas.ends }
     ensures bytes_after { bytes.new ≡ (text_filling parts from block.now n flags.old ends.old bytes.old).areas.bytes }
 {
-    let weighed = part_rows::weigh_rows(parts, from, block, n);
-    let Weighed::Total { bytes: total, next } = weighed else {
+    let looked = part_rows::weigh_rows(parts, from, block, n);
+    let Some(weighed) = looked else {
         return refused(refusal::DISAGREE, from);
     };
+    let total = weighed.bytes;
     if flags.len() < n {
         return refused(refusal::ROOM, from);
     }
@@ -103,7 +103,7 @@ fn give_weighed(
     Filled {
         number: 0,
         bytes: total,
-        next: next_by(source.coded, from, next),
+        next: next_by(source.coded, from, weighed.next),
     }
 }
 

@@ -14,7 +14,7 @@ use rle::Spot;
 use source::{Marks, Weighed};
 
 // Looks at the next `n` rows, by their counts, ends and keys.
-pub fn weigh_rows(parts: Parts, from: Spot, block: &[u8], n: usize) -> Weighed
+pub fn weigh_rows(parts: Parts, from: Spot, block: &[u8], n: usize) -> Option<Weighed>
     requires { Serves parts from block.now n }
     ensures { result ≡ weighed_by (good_in parts block.now) (size_in parts block.now) (steps_by parts from block.now n) }
 {

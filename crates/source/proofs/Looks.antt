@@ -5,42 +5,44 @@ use mathlib.Core.Bool.{Bool, true, false, cond}
 use mathlib.Core.List.{List}
 use mathlib.Core.Path.{◌≡◌, refl}
 use lib.Dec.{eqb}
+use Rattle.std.specs.Prelude.{Option, Some, None}
 use borrow.Author.Tests.{eq-eqb, ne_eqb, eqb-true, eqb-false}
 use Rattle.rle.specs.declared.Spot.{Spot}
 use Rattle.rle.specs.declared.Piece.{Piece}
 use Rattle.rle.specs.declared.Piece.TheVariants.{Rows, Stuck as NoPiece}
 use Rattle.source.specs.declared.Source.{Source}
 use Rattle.source.specs.declared.Look.{Look}
-use Rattle.source.specs.declared.Look.TheVariants.{Item, Wrong}
-use Rattle.source.specs.Rows.{seen_by, sees_by, look_by}
+use Rattle.source.specs.Rows.{seen_by, sees_by, look, look_by}
 use Rattle.source.proofs.AtPlace.{sees-most}
 
 module _ (s : Source) (marks : List ℕ) (i : ℕ) where
   -- ---- the returns of `seen_run`
   module _ {x q : Piece} (e : x ≡ q) where
-    pub look-stuck : x ≡ NoPiece → Wrong ≡ look_by s marks i q
+    pub look-stuck : x ≡ NoPiece → None ≡ look_by s marks i q
     unfolding look_by
     look-stuck b = rw (← e, b)
 
     module _ {k : ℕ} {t : Spot} (b : x ≡ Rows k t) where
-      pub look_none : k ≡ 0 → Item 0 k t ≡ look_by s marks i q
+      pub look_none : k ≡ 0 → Some (look 0 k t) ≡ look_by s marks i q
       unfolding look_by
       look_none z = rw (← e, b) (simp (eq-eqb k 0 z))
 
       module _ (z : k ≡ 0 → ⊥) where
-        pub look-wrong : sees_by s marks i ≡ false → Wrong ≡ look_by s marks i q
+        pub look-wrong : sees_by s marks i ≡ false → None ≡ look_by s marks i q
         unfolding look_by
         look-wrong h = rw (← e, b, h) (simp (ne_eqb k 0 z))
 
-        pub look-item : {seen : ℕ} → (sees_by s marks i ≡ true) × (seen ≡ seen_by s.marks marks i) → Item seen k t ≡ look_by s marks i q
+        pub look-item : {seen : ℕ} → (sees_by s marks i ≡ true) × (seen ≡ seen_by s.marks marks i) → Some (look seen k t) ≡ look_by s marks i q
         unfolding look_by
         look-item h = rw (← e, b, h.0, h.1) (simp (ne_eqb k 0 z))
 
   -- ---- what its answer says
-  abbrev pub Tells : Piece → Look → Type 0
-  Tells q (Item seen k t) = (q ≡ Rows k t) × (seen ≤ s.items) × (0 < k → (sees_by s marks i ≡ true) × (seen ≡ seen_by s.marks marks i)) × (0 < seen → 0 < k)
-  Tells (Rows k t) Wrong = (0 < k) × (sees_by s marks i ≡ false)
-  Tells NoPiece Wrong = Unit
+  abbrev pub Tells : Piece → Option Look → Type 0
+  Tells q (Some x) =
+      (q ≡ Rows x.rows x.next) × (x.seen ≤ s.items) × (0 < x.rows → (sees_by s marks i ≡ true) × (x.seen ≡ seen_by s.marks marks i))
+      × (0 < x.seen → 0 < x.rows)
+  Tells (Rows k t) None = (0 < k) × (sees_by s marks i ≡ false)
+  Tells NoPiece None = Unit
 
   pub tells : (q : Piece) → Tells q (look_by s marks i q)
   unfolding look_by
@@ -48,7 +50,7 @@ module _ (s : Source) (marks : List ℕ) (i : ℕ) where
   tells (Rows k t) = go (eqb k 0) refl (sees_by s marks i) refl
     where
       go : (z : Bool) → eqb k 0 ≡ z → (b : Bool) → sees_by s marks i ≡ b
-          → Tells (Rows k t) (cond z (Item 0 k t) (cond b (Item (seen_by s.marks marks i) k t) Wrong))
+          → Tells (Rows k t) (cond z (Some (look 0 k t)) (cond b (Some (look (seen_by s.marks marks i) k t)) None))
       go true h b g = let n : k ≡ 0 = eqb-true k 0 h in (refl, omega arith, (λ l. absurd (omega arith)), (λ l. absurd (omega arith)))
       go false h true g = let n = eqb-false k 0 h in (refl, sees-most s marks i g, (λ l. (g, refl)), (λ l. omega arith))
       go false h false g = let n = eqb-false k 0 h in (omega arith, g)

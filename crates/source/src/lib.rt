@@ -34,31 +34,21 @@ pub struct Source {
     pub coded: bool,
 }
 
-// The bytes of an item; or it is wrong.
+// The bytes of the next rows, of which one more than a read can give stands for all that are more, and the place after them. There is
+// none where a count, an item or a key is wrong.
 #[derive(Clone, Copy)]
-pub enum Weight {
-    Sum(usize),
-    Broken,
-}
-
-// The bytes of the next rows, of which one more than a read can give stands for all that are more, and the place after them; or a
-// count, an item or a key is wrong.
-#[derive(Clone, Copy)]
-pub enum Weighed {
-    Total { bytes: usize, next: Spot },
-    Stuck,
+pub struct Weighed {
+    pub bytes: usize,
+    pub next: Spot,
 }
 
 // A run that is looked at: its item, from 1 on (0 is none: a null key has none, and a run that was used up is not looked at),
-// how many rows, and the place after them; or the count or the key is wrong.
+// how many rows, and the place after them. There is none where the count or the key is wrong.
 #[derive(Clone, Copy)]
-pub enum Look {
-    Item {
-        seen: usize,
-        rows: usize,
-        next: Spot,
-    },
-    Wrong,
+pub struct Look {
+    pub seen: usize,
+    pub rows: usize,
+    pub next: Spot,
 }
 
 // A run of which rows are written: its item, from 1 on (0 is null, and stands for a run that was used up too), how many
@@ -133,26 +123,33 @@ pub fn shown_of(s: Source, marks: &[u8], items: &[u8], i: usize, seen: usize) ->
 // ---- the next run
 
 // The next run that is looked at: its item is there.
-pub fn seen_run(s: Source, counts: &[u8], marks: &[u8], items: &[u8], at: Spot, left: usize) -> Look
+pub fn seen_run(
+    s: Source,
+    counts: &[u8],
+    marks: &[u8],
+    items: &[u8],
+    at: Spot,
+    left: usize,
+) -> Option<Look>
     requires { Ready s marks.now items.now × (at.run ≤ MOST_ITEMS) }
     ensures { result ≡ look_by s marks.now at.run (piece_of s counts.now at left) }
 {
     let piece = rle::take_piece(s.coded, counts, s.runs, at, left);
     let Piece::Rows { rows, next } = piece else {
-        return Look::Wrong;
+        return None;
     };
     if rows == 0 {
-        return Look::Item {
+        return Some(Look {
             seen: 0,
             rows,
             next,
-        };
+        });
     }
     let seen = seen_at(s, marks, items, at.run);
     if s.items < seen {
-        return Look::Wrong;
+        return None;
     }
-    Look::Item { seen, rows, next }
+    Some(Look { seen, rows, next })
 }
 
 // The next run of which rows are written. The first pass has found it there and good.

@@ -15,15 +15,15 @@ returns-in_default c =
     let a = c.args in
     let all = fixed_told c.refused.result c.refused.ensures
     (looked-stuck a.parts a.from a.block.now a.n (areas a.values.now a.flags.now [] [])
-    (sym c.in_default.is ∙ c.weigh_rows-weighed.ensures)) in
+    c.in_default.ensures) in
     record { value = all.0; values_after = all.1.0; flags_after = all.1.1 }
 
 -- src/fixed.rt:96:9
 pub returns-then-values-n : goal.returns-then-values-n
 returns-then-values-n c =
     let looked : let a = c.args in
-    Looked a.parts a.from a.block.now a.n c.in-Total.bytes c.in-Total.next = let a = c.args in
-    looked-total a.parts a.from a.block.now a.n (sym c.in-Total.is ∙ c.weigh_rows-weighed.ensures) in
+    Looked a.parts a.from a.block.now a.n c.in-Some.weighed.bytes c.in-Some.weighed.next = let a = c.args in
+    looked-total a.parts a.from a.block.now a.n c.in-Some.ensures in
     let a = c.args in
     let all = fixed_told c.refused-then-values-n.result c.refused-then-values-n.ensures
     (values-short (looked).read (areas a.values.now a.flags.now [] []) (is-fixed _ _ c.requires.1) (omega arith)) in
@@ -33,8 +33,8 @@ returns-then-values-n c =
 pub returns-then-flags-n : goal.returns-then-flags-n
 returns-then-flags-n c =
     let looked : let a = c.args in
-    Looked a.parts a.from a.block.now a.n c.in-Total.bytes c.in-Total.next = let a = c.args in
-    looked-total a.parts a.from a.block.now a.n (sym c.in-Total.is ∙ c.weigh_rows-weighed.ensures) in
+    Looked a.parts a.from a.block.now a.n c.in-Some.weighed.bytes c.in-Some.weighed.next = let a = c.args in
+    looked-total a.parts a.from a.block.now a.n c.in-Some.ensures in
     let a = c.args in
     let all = fixed_told c.refused-then-flags-n.result c.refused-then-flags-n.ensures
     (flags-short (looked).read (areas a.values.now a.flags.now [] []) (omega arith)) in
@@ -44,24 +44,24 @@ returns-then-flags-n c =
 pub write_values-requires : goal.write_values-requires
 write_values-requires c =
     let looked : let a = c.args in
-    Looked a.parts a.from a.block.now a.n c.in-Total.bytes c.in-Total.next = let a = c.args in
-    looked-total a.parts a.from a.block.now a.n (sym c.in-Total.is ∙ c.weigh_rows-weighed.ensures) in
+    Looked a.parts a.from a.block.now a.n c.in-Some.weighed.bytes c.in-Some.weighed.next = let a = c.args in
+    looked-total a.parts a.from a.block.now a.n c.in-Some.ensures in
     (c.requires.0, c.requires.1, may_write (looked).read (length c.args.values.now) (omega arith))
 
 -- src/fixed.rt:102:5
 pub write_flags-requires : goal.write_flags-requires
 write_flags-requires c =
     let looked : let a = c.args in
-    Looked a.parts a.from a.block.now a.n c.in-Total.bytes c.in-Total.next = let a = c.args in
-    looked-total a.parts a.from a.block.now a.n (sym c.in-Total.is ∙ c.weigh_rows-weighed.ensures) in
+    Looked a.parts a.from a.block.now a.n c.in-Some.weighed.bytes c.in-Some.weighed.next = let a = c.args in
+    looked-total a.parts a.from a.block.now a.n c.in-Some.ensures in
     (c.requires.0, may_write (looked).read (length c.args.flags.now) (omega arith))
 
 -- src/fixed.rt:77:1
 pub returns : goal.returns
 returns c =
     let looked : let a = c.args in
-    Looked a.parts a.from a.block.now a.n c.in-Total.bytes c.in-Total.next = let a = c.args in
-    looked-total a.parts a.from a.block.now a.n (sym c.in-Total.is ∙ c.weigh_rows-weighed.ensures) in
+    Looked a.parts a.from a.block.now a.n c.in-Some.weighed.bytes c.in-Some.weighed.next = let a = c.args in
+    looked-total a.parts a.from a.block.now a.n c.in-Some.ensures in
     let a = c.args in
     let all = values-written
     (looked).read
