@@ -1,12 +1,10 @@
 -- What opening a column and its part come to, by the number of the file and the entry. Assumes nothing.
 use Prim.Native.Nat.{ℕ, zero, suc, ◌+◌, ◌-◌, ◌≤◌, ◌<◌}
 use native.Mathlib.Omega.{arith}
-use mathlib.Core.Bool.{true, false}
-use mathlib.Core.Path.{◌≡◌, refl, sym, ap, ◌∙◌}
+use mathlib.Core.Path.{◌≡◌, refl, ap, ◌∙◌}
 use mathlib.Core.List.{List, []}
-use lib.ListN.{length, take, drop}
+use lib.ListN.{take, drop}
 use borrow.Author.Tests.{eq-eqb, ne_eqb}
-use Rattle.block.specs.declared.Reader.{Reader}
 use Rattle.block.specs.declared.Opened.{Opened}
 use Rattle.block.specs.declared.Opened.TheVariants.{Open, Refused}
 use Rattle.block.specs.declared.Opening.{Opening}
@@ -14,7 +12,6 @@ use Rattle.block.specs.Reading.{no_reader, opening_of}
 use Rattle.descriptor.specs.declared.Descriptor.{Descriptor}
 use Rattle.descriptor.specs.Descriptor.{described_opened}
 use Rattle.descriptor.proofs.Openings.{refused-some}
-use Rattle.sheet.specs.declared.Found.{Found}
 use Rattle.sheet.specs.Sheet.{entry_at, descriptor_in, offset_in, length_in, named_by, sheet_number, opened_in, column_opened, found, found_by, column_found, column_part}
 
 -- the bytes from one place to another

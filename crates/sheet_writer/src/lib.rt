@@ -19,13 +19,6 @@ pub struct Written {
     pub len: usize,
 }
 
-// What the blocks come to: their length, or the refusal of the first that is bad.
-#[derive(Clone, Copy)]
-enum Summed {
-    Bytes(usize),
-    Refused(u8),
-}
-
 // Writes a file of columns that are lent as five numbers each, kind, encoding, width, rows and the length of its block, and their blocks one
 // after the other.
 pub fn write(numbers: &[usize], blocks: &[u8], out: &mut [u8]) -> Written
@@ -39,10 +32,9 @@ pub fn write(numbers: &[usize], blocks: &[u8], out: &mut [u8]) -> Written
     if numbers.len() % 5 != 0 {
         return refused(refusal::SHEET);
     }
-    let summed = sum(numbers, columns, blocks);
-    match summed {
-        Summed::Bytes(bytes) => put_file(numbers, columns, blocks, bytes, out),
-        Summed::Refused(number) => refused(number),
+    match sum(numbers, columns, blocks) {
+        Ok(bytes) => put_file(numbers, columns, blocks, bytes, out),
+        Err(number) => refused(number),
     }
 }
 
@@ -54,22 +46,21 @@ fn refused(number: u8) -> Written
 
 // ---- the blocks
 
-// Each column in order: whether the lent bytes hold its block, and whether that is sound.
-fn sum(numbers: &[usize], columns: usize, blocks: &[u8]) -> Summed
+// The length of the blocks, or the number of the first that is bad. Each column in order: whether the lent bytes hold its block, and
+// whether that is sound.
+fn sum(numbers: &[usize], columns: usize, blocks: &[u8]) -> Result<usize, u8>
     requires { 5 * columns ≤ length numbers.now }
     ensures { result ≡ summed_by (blocks_number columns numbers.now blocks.now) (lent_bytes columns numbers.now) }
 {
-    let mut i = 0;
     let mut at = 0;
-    while i < columns {
+    for i in 0..columns {
         let number = number_of(numbers, 5 * i, blocks, at);
         if number != 0 {
-            return Summed::Refused(number);
+            return Err(number);
         }
         at += numbers[5 * i + 4];
-        i += 1;
     }
-    Summed::Bytes(at)
+    Ok(at)
 }
 
 // One column, whose numbers lie at a place and whose block begins at another.
@@ -133,12 +124,10 @@ fn put_entries(numbers: &[usize], columns: usize, out: &mut [u8])
     requires { (5 * columns ≤ length numbers.now) × (directory_end columns + lent_bytes columns numbers.now ≤ length out.old) }
     ensures { out.new ≡ sets out.old 1 (lent_entries columns (directory_end columns) numbers.now) }
 {
-    let mut i = 0;
     let mut from = 1 + 16 * columns;
-    while i < columns {
+    for i in 0..columns {
         put_entry(numbers, 5 * i, from, out, 1 + 16 * i);
         from += numbers[5 * i + 4];
-        i += 1;
     }
 }
 

@@ -1,6 +1,5 @@
--- `sheet_writer::sum` meets its contract. The loop's invariant is `Summing`, its measure the columns that are left. Assumes nothing.
+-- `sheet_writer::sum` meets its contract. The loop's invariant is `Summing`. Assumes nothing.
 use native.Mathlib.Omega.{arith}
-use Prim.Native.Nat.{◌-◌}
 use Rattle.sheet_writer.proofs.Loops as laws
 use Rattle.sheet_writer.proofs.sum.Goals as goal
 

@@ -1,7 +1,7 @@
--- `sheet::number_of` meets its contract: each return by the law of the tests that led there. Assumes nothing.
+-- `sheet::check` meets its contract: each return by the law of the tests that led there. Assumes nothing.
 use native.Mathlib.Omega.{arith}
 use Rattle.sheet.proofs.Numbers as laws
-use Rattle.sheet.proofs.number_of.Goals as goal
+use Rattle.sheet.proofs.check.Goals as goal
 
 pub returns-then-n-gt-MOST_FILE : goal.returns-then-n-gt-MOST_FILE
 returns-then-n-gt-MOST_FILE c = laws.too_long _ _ (omega arith)
