@@ -26,6 +26,7 @@ use Rattle.fill.specs.Areas.{Areas}
 use Rattle.descriptor.specs.declared.Descriptor.{Descriptor}
 use Rattle.descriptor.specs.Descriptor.{described_number}
 use Rattle.slow_answer.specs.Slow.{Shown, answer_of, refused_row, shown_in, shown_of, shown_by, row_shown}
+use Rattle.slow_plain.specs.Items.{slot_of}
 use Rattle.slow_plain.proofs.Refused.{refusal-some}
 use Rattle.slow_giving.specs.Giving.{Gives}
 use Rattle.slow_places.specs.declared.Place.{Place}
@@ -74,7 +75,7 @@ module _ (d : Descriptor) (b : List ℕ) where
         near-shown h = shown_of_lem (Of k e) c ∙ simp (lt-leb d.rows r h)
 
         pub place-shown :
-            {p : Place} → Shows k e d.rows b r p → r < d.rows → row_shown d b r a ≡ shown_in k (entry_row k p.items (items_at p b) p.slot) a
+            {p : Place} → Shows k e d.rows b r p → r < d.rows → row_shown d b r a ≡ shown_in k (entry_row k p.items (items_at p b) (slot_of p.item)) a
         place-shown s h = near-shown h ∙ ap (λ (row : Row). shown_in k row a) s.shown
 
     -- ---- what opening's 0 says of the block

@@ -55,7 +55,7 @@ fn given(
         kind,
         &block[place.from..place.to],
         place.items,
-        place.slot,
+        place.item,
         values,
         flags,
         ends,

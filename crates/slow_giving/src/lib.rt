@@ -7,6 +7,7 @@ ghost use Rattle.plain.specs.Rows.{null};
 ghost use Rattle.plain.specs.Plain.{plain_number};
 ghost use Rattle.dict.specs.Dictionary.{entry_row};
 ghost use Rattle.fill.specs.Areas.{areas};
+ghost use Rattle.slow_plain.specs.Items.{slot_of};
 ghost use Rattle.slow_answer.specs.Slow.{answer_of, shown_in};
 ghost use Rattle.slow_giving.specs.Giving.{Gives, GivesInt, GivesBytes};
 
@@ -59,34 +60,34 @@ fn give_bytes(
     Ok(len)
 }
 
-// What entry `slot` of a plain block of `n` items shows, from 1 on; 0 is null.
+// What item `item` of a plain block of `n` shows; null is none of them.
 pub fn give(
     kind: Kind,
     s: &[u8],
     n: usize,
-    slot: usize,
+    item: Option<usize>,
     values: &mut [i64],
     flags: &mut [u8],
     ends: &mut [u32],
     bytes: &mut [u8],
 ) -> Result<usize, Refusal>
-    requires { (n ≤ MOST_ITEMS) × (length s.now ≤ MOST_BYTES) × (plain_number kind n s.now ≡ 0) × (slot ≤ n) }
-    ensures value { answer_of result ≡ (shown_in kind (entry_row kind n s.now slot) (areas values.old flags.old ends.old bytes.old)).answer }
+    requires { (n ≤ MOST_ITEMS) × (length s.now ≤ MOST_BYTES) × (plain_number kind n s.now ≡ 0) × (slot_of item ≤ n) }
+    ensures value { answer_of result ≡ (shown_in kind (entry_row kind n s.now (slot_of item)) (areas values.old flags.old ends.old bytes.old)).answer }
     ensures bytes_after { areas values.new flags.new ends.new bytes.new
-        ≡ (shown_in kind (entry_row kind n s.now slot) (areas values.old flags.old ends.old bytes.old)).areas }
+        ≡ (shown_in kind (entry_row kind n s.now (slot_of item)) (areas values.old flags.old ends.old bytes.old)).areas }
 {
-    if slot == 0 {
+    let Some(i) = item else {
         return give_null(kind, s, values, flags, ends, bytes);
-    }
+    };
     match kind {
-        Kind::Fixed(p) => give_value(slow_plain::value_at(p, s, slot - 1), 1, values, flags),
+        Kind::Fixed(p) => give_value(slow_plain::value_at(p, s, i), 1, values, flags),
         Kind::Char(w) => {
-            let item = slow_plain::char_at(w as usize, n, s, slot - 1);
-            give_bytes(s, item.from, item.len, 1, flags, ends, bytes)
+            let piece = slow_plain::char_at(w as usize, n, s, i);
+            give_bytes(s, piece.from, piece.len, 1, flags, ends, bytes)
         }
         Kind::Blob(_) => {
-            let item = slow_plain::blob_at(n, s, slot - 1);
-            give_bytes(s, item.from, item.len, 1, flags, ends, bytes)
+            let piece = slow_plain::blob_at(n, s, i);
+            give_bytes(s, piece.from, piece.len, 1, flags, ends, bytes)
         }
     }
 }
