@@ -2,7 +2,7 @@
 // the other, so that a listing of any length needs the room of one row only.
 #![tactic(auto)]
 
-ghost use Rattle.std.specs.Prelude.{◌≡◌, length, take};
+ghost use Rattle.std.specs.Prelude.{◌≡◌, length};
 ghost use Rattle.limits.specs.Limits.{MOST_INPUT};
 ghost use Rattle.block.specs.Reading.{remaining};
 ghost use Rattle.text.specs.Input.{input_opened};
@@ -12,7 +12,8 @@ use block::{Given, Opened, Reader};
 use encode::{FoundKind, Kind};
 use limits::refusal;
 
-// Lists the input on standard output. What comes back is 0 or the number that was printed behind `refused`.
+// Lists the input on standard output. What comes back is 0 or the number that was printed behind `refused`. It is a number and no `Refusal`
+// because the calls of a reader, which C has too, answer records with numbers.
 pub fn print(input: &[u8]) -> u8
     ensures { result ≡ refusal_of (input_opened input.now) }
 {
@@ -50,16 +51,6 @@ pub fn print_rows(reader: Reader, block: &[u8]) -> u8
 
 fn say(text: &[u8]) {
     io::write_all(1, text);
-}
-
-// The first n bytes, or all if there are fewer.
-fn first(s: &[u8], n: usize) -> &[u8]
-    ensures { result.now ≡ take n s.now }
-{
-    if s.len() <= n {
-        return s;
-    }
-    &s[..n]
 }
 
 // A word and a number.
@@ -116,14 +107,12 @@ fn say_each(
     ensures { result ≡ rows_refused n from block.now (length bytes.old) }
 {
     let mut reader = from;
-    let mut i = 0;
-    while i < n {
+    for i in 0..n {
         let answer = say_next(reader, kind, i, block, bytes, text);
         if answer.number != 0 {
             return answer.number;
         }
         reader = answer.reader;
-        i += 1;
     }
     0
 }
@@ -151,7 +140,7 @@ fn say_next(
         kind,
         flags[0] != 0,
         values[0],
-        first(bytes, answer.bytes),
+        bytes.get(..answer.bytes).unwrap_or(bytes),
         text,
     );
     say_row(index, made, text);
@@ -165,6 +154,6 @@ fn say_row(index: usize, made: Option<usize>, text: &[u8]) {
     };
     io::print_decimal(1, index as u64);
     say(b" ");
-    say(first(text, n));
+    say(text.get(..n).unwrap_or(text));
     say(b"\n");
 }

@@ -1,4 +1,4 @@
--- `say_each` meets its contract: the rows that are left decide what comes back of all of them. The measure is their number. Assumes nothing.
+-- `say_each` meets its contract: the rows that are left decide what comes back of all of them. Assumes nothing.
 use Prim.Native.Nat.{◌-◌}
 use native.Mathlib.Omega.{arith}
 use Rattle.printing.proofs.RowsListed as laws
