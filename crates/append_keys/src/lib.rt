@@ -148,7 +148,21 @@ pub fn to_keys(
     }
     let len = slots::item_len(kind, present, value, item);
     key_found(
-        c, kind, items, ends, flags, counts, keys, lens, present, value, item,
-        found.stored, found.joins, found.key, len, n,
+        c,
+        kind,
+        items,
+        ends,
+        flags,
+        counts,
+        keys,
+        lens,
+        present,
+        value,
+        item,
+        found.stored,
+        found.joins,
+        found.key,
+        len,
+        n,
     )
 }

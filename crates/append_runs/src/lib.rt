@@ -156,7 +156,20 @@ pub fn to_runs(
     }
     let len = slots::item_len(kind, present, value, item);
     run_found(
-        c, kind, nullable, items, ends, flags, counts, keys, lens, present, value, item,
-        found.joins, len, n,
+        c,
+        kind,
+        nullable,
+        items,
+        ends,
+        flags,
+        counts,
+        keys,
+        lens,
+        present,
+        value,
+        item,
+        found.joins,
+        len,
+        n,
     )
 }

@@ -1,7 +1,8 @@
 -- 01, "Building" and "Sizes": finish, the estimated size and should_finish as functions of the record and what the lent areas hold, for every record
 -- and all memory. Each hands the record back as it was given, whether it refuses or not. Assumes nothing.
-use Rattle.std.specs.Prelude.{ℕ, Bool, true, false, cond, List, ltb, length}
-use Rattle.limits.specs.Refusals.{ROOM, DISAGREE}
+use Rattle.std.specs.Prelude.{ℕ, Result, Ok, Err, Bool, true, false, cond, List, ltb, length}
+use Rattle.limits.specs.declared.refusal.Refusal.{Refusal}
+use Rattle.limits.specs.Refusals.{ROOM, DISAGREE, refusal_number}
 use Rattle.area.specs.Area.{over}
 use Rattle.encode.specs.declared.Kind.{Kind}
 use Rattle.emit.specs.Parts.{held_inner, held_runs, held_dictionary}
@@ -35,6 +36,11 @@ pub record Finish : Type 0 where
 abbrev pub finish_of : ℕ → ℕ → Builder → List ℕ → Finish
 finish_of e len r out = record { answer = record { number = e; len = len; builder = r }; out = out }
 
+-- what a function answers that gives the bytes written or a refusal
+abbrev pub finished_by : Builder → Result ℕ Refusal → Finished
+finished_by r (Ok len) = record { number = 0; len = len; builder = r }
+finished_by r (Err e) = record { number = refusal_number e; len = 0; builder = r }
+
 unfoldable pub finished_with : Builder → List ℕ → List ℕ → Finish
 finished_with r block out = cond (ltb (length out) (length block)) (finish_of ROOM 0 r out) (finish_of 0 (length block) r (over out 0 block))
 
@@ -51,6 +57,10 @@ finished r a out = finished_in (column_of r.kind r.encoding r.width) r a out
 abbrev pub estimated_as : ℕ → ℕ → Builder → Estimated
 estimated_as e n r = record { number = e; size = n; builder = r }
 
+abbrev pub estimated_by : Builder → Result ℕ Refusal → Estimated
+estimated_by r (Ok n) = estimated_as 0 n r
+estimated_by r (Err e) = estimated_as (refusal_number e) 0 r
+
 unfoldable pub estimated_in : Column → Builder → Estimated
 estimated_in Unknown r = estimated_as DISAGREE 0 r
 estimated_in (Of k e) r = cond (record_wrong k e r.counted) (estimated_as DISAGREE 0 r) (estimated_as 0 (size_by k e r.counted) r)
@@ -61,6 +71,10 @@ estimated r = estimated_in (column_of r.kind r.encoding r.width) r
 -- ---- should_finish, before a next row
 abbrev pub asked_as : ℕ → Bool → Builder → Asked
 asked_as e full r = record { number = e; full = full; builder = r }
+
+abbrev pub asked_by : Builder → Result Bool Refusal → Asked
+asked_by r (Ok full) = asked_as 0 full r
+asked_by r (Err e) = asked_as (refusal_number e) false r
 
 unfoldable pub asked_in : Column → Builder → Bool → ℕ → Asked
 asked_in Unknown r present len = asked_as DISAGREE false r

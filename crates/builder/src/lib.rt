@@ -25,7 +25,8 @@ pub struct Builder {
     pub counted: Counted,
 }
 
-// What an append answers: 0 and the next builder, or a refusal with the builder as it was.
+// What an append answers: 0 and the next builder, or a refusal with the builder as it was. The records of the answers keep
+// their numbers: they are the C interface.
 #[repr(C)]
 #[derive(Clone, Copy)]
 pub struct Appended {

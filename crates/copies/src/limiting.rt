@@ -106,6 +106,7 @@ fn runs_counted(
 {
     let mut now = first;
     let mut left = more;
+    // No `for` is plainer: a step takes as many of the rows that are left as join.
     while 0 < left {
         if too_long_again(now, e, len) {
             return Err(Refusal::Limit);

@@ -34,10 +34,8 @@ fn write_ends(n: usize, ends: &[u32], out: &mut [u8], at: usize) -> usize
     ensures out_after { out.new ≡ sets out.old at (joined (little 4) (take n ends.now)) }
 {
     let mut to = at;
-    let mut i = 0;
-    while i < n {
+    for i in 0..n {
         to = put_low4(ends[i] as usize, out, to);
-        i += 1;
     }
     to
 }
@@ -134,10 +132,8 @@ pub fn counts_len(n: usize, counts: &[u32]) -> usize
     ensures { (result ≡ length (held_counts n counts.now)) × (result ≤ 5 * MOST_ITEMS) }
 {
     let mut len = 0;
-    let mut i = 0;
-    while i < n {
+    for i in 0..n {
         len += varint::size(counts[i]);
-        i += 1;
     }
     len
 }
@@ -162,10 +158,8 @@ fn write_counts(n: usize, counts: &[u32], out: &mut [u8], at: usize) -> usize
     ensures out_after { out.new ≡ sets out.old at (held_counts n counts.now) }
 {
     let mut to = at;
-    let mut i = 0;
-    while i < n {
+    for i in 0..n {
         to = write_count(counts[i], out, to);
-        i += 1;
     }
     to
 }
@@ -195,10 +189,8 @@ fn write_keys(n: usize, keys: &[i32], out: &mut [u8], at: usize) -> usize
     ensures out_after { out.new ≡ sets out.old at (joined (λ (key : ℤ). little 4 (of_z w32 key)) (take n keys.now)) }
 {
     let mut to = at;
-    let mut i = 0;
-    while i < n {
+    for i in 0..n {
         to = put_low4(key_bits(keys[i]), out, to);
-        i += 1;
     }
     to
 }

@@ -1,9 +1,10 @@
 // Equality as given, and the lookup over the entries.
-ghost use Rattle.std.specs.Prelude.{◌≡◌, cond, [], ◌+◌, ◌*◌, ◌≤◌, ltb, length, take, drop};
+ghost use Rattle.std.specs.Prelude.{◌≡◌, ◌≢◌, true, cond, [], ◌+◌, ◌*◌, ◌≤◌, ltb, length, take, drop};
+ghost use Rattle.encode.specs.Bytes.{number};
 ghost use Rattle.encode.specs.Kinds.{blob};
 ghost use Rattle.encode.specs.declared.Kind.TheVariants.{Char};
 ghost use Rattle.encode.specs.Kinds.{width_of, true_or_false};
-ghost use Rattle.limits.specs.Limits.{MOST_ITEMS};
+ghost use Rattle.limits.specs.Limits.{MOST_ITEMS, is_width};
 ghost use Rattle.plain.specs.Rows.{value_of, bytes, same, same_bytes};
 ghost use Rattle.lookup.specs.Held.{held, item_start, held_row, look_up};
 ghost use Rattle.lookup.specs.First.{first_value, first_number};
@@ -19,12 +20,10 @@ fn same_as(s: &[u8], from: usize, t: &[u8]) -> bool
     requires { from + length t.now ≤ length s.now }
     ensures { result ≡ same_bytes t.now (take (length t.now) (drop from s.now)) }
 {
-    let mut i = 0;
-    while i < t.len() {
+    for i in 0..t.len() {
         if s[from + i] != t[i] {
             return false;
         }
-        i += 1;
     }
     true
 }
@@ -77,66 +76,45 @@ pub fn same_item(
 
 // ---- the entries
 
-// The first of `n` items that is `want`, or `n`: a bool, of which any nonzero byte is true; items of two bytes; of four; of
-// eight. The bytes are compared as one number, lowest first, whatever their order, and a loop for each width asks for no kind.
+// The first of `n` bools that is `want`, or `n`: any nonzero byte is true.
 fn find_bool(items: &[u8], n: usize, want: bool) -> usize
     requires { n ≤ length items.now }
     ensures { result ≡ first_value Primitive.Bool items.now n (true_or_false want) }
 {
-    let mut i = 0;
-    while i < n {
+    for i in 0..n {
         if (items[i] != 0) == want {
             return i;
         }
-        i += 1;
     }
     n
 }
 
-fn find_two(items: &[u8], n: usize, want: u64) -> usize
-    requires { n * 2 ≤ length items.now }
-    ensures { result ≡ first_number 2 items.now n want }
+// The number of the first `W` of eight bytes, lowest first.
+fn low<const W: usize>(item: [u8; 8]) -> u64
+    requires { W ≢ 2 → W ≢ 4 → W ≡ 8 }
+    ensures { result ≡ number (take W item) }
 {
-    let mut at = 0;
-    let mut i = 0;
-    while i < n {
-        if encode::low2(plain::item(items, at, 2)) == want {
-            return i;
-        }
-        at += 2;
-        i += 1;
+    if W == 2 {
+        return encode::low2(item);
     }
-    n
+    if W == 4 {
+        return encode::low4(item);
+    }
+    encode::low8(item)
 }
 
-fn find_four(items: &[u8], n: usize, want: u64) -> usize
-    requires { n * 4 ≤ length items.now }
-    ensures { result ≡ first_number 4 items.now n want }
+// The first of `n` items of `W` bytes that have the number `want`, or `n`. The bytes are compared as one number, lowest first, whatever
+// their order, and the loop asks for no kind.
+fn find_number<const W: usize>(items: &[u8], n: usize, want: u64) -> usize
+    requires { (is_width W ≡ true) × (W ≢ 2 → W ≢ 4 → W ≡ 8) × (n * W ≤ length items.now) }
+    ensures { result ≡ first_number W items.now n want }
 {
     let mut at = 0;
-    let mut i = 0;
-    while i < n {
-        if encode::low4(plain::item(items, at, 4)) == want {
+    for i in 0..n {
+        if low::<W>(plain::item(items, at, W)) == want {
             return i;
         }
-        at += 4;
-        i += 1;
-    }
-    n
-}
-
-fn find_eight(items: &[u8], n: usize, want: u64) -> usize
-    requires { n * 8 ≤ length items.now }
-    ensures { result ≡ first_number 8 items.now n want }
-{
-    let mut at = 0;
-    let mut i = 0;
-    while i < n {
-        if encode::low8(plain::item(items, at, 8)) == want {
-            return i;
-        }
-        at += 8;
-        i += 1;
+        at += W;
     }
     n
 }
@@ -155,9 +133,9 @@ pub fn find_fixed(p: Primitive, items: &[u8], n: usize, value: i64) -> usize
             let item = p.encode(value);
             find_bool(items, n, item[0] != 0)
         }
-        Shape::Low2 => find_two(items, n, encode::low2(p.encode(value))),
-        Shape::Low4 | Shape::High4 => find_four(items, n, encode::low4(p.encode(value))),
-        Shape::Low8 | Shape::High8 => find_eight(items, n, encode::low8(p.encode(value))),
+        Shape::Low2 => find_number::<2>(items, n, encode::low2(p.encode(value))),
+        Shape::Low4 | Shape::High4 => find_number::<4>(items, n, encode::low4(p.encode(value))),
+        Shape::Low8 | Shape::High8 => find_number::<8>(items, n, encode::low8(p.encode(value))),
     }
 }
 
@@ -177,8 +155,7 @@ fn find_char(w: u8, items: &[u8], lens: &[u8], n: usize, item: &[u8]) -> Option<
     ensures { result ≡ look_up (Char w) n 0 (held items.now [] lens.now) (bytes item.now) }
 {
     let len = held_len(w, item.len());
-    let mut i = 0;
-    while i < n {
+    for i in 0..n {
         let l = lens[i];
         if l as usize == len {
             if same_as(items, i * (w as usize), item) {
@@ -187,7 +164,6 @@ fn find_char(w: u8, items: &[u8], lens: &[u8], n: usize, item: &[u8]) -> Option<
         } else if w < l {
             return None;
         }
-        i += 1;
     }
     Some(n)
 }
@@ -201,6 +177,7 @@ fn find_blob(items: &[u8], len: usize, ends: &[u32], n: usize, item: &[u8]) -> O
         return Some(n);
     }
     let last = n - 1;
+    // No `for` is plainer: the place and the end before it go on together, and both are used behind the loop.
     let mut i = 0;
     let mut from = 0;
     while i < last {

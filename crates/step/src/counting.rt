@@ -37,7 +37,13 @@ pub fn grown_row(c: Counted, len: usize) -> Counted
 }
 
 // The record with the row counted in, or that it passes a limit or has no room. An item longer than any block is refused before it goes into a sum.
-pub fn row_counted(c: Counted, kind: Kind, nullable: bool, room: Room, len: usize) -> Result<Counted, Refusal>
+pub fn row_counted(
+    c: Counted,
+    kind: Kind,
+    nullable: bool,
+    room: Room,
+    len: usize,
+) -> Result<Counted, Refusal>
     requires { record_wrong kind (rows_by nullable) c ≡ false }
     ensures { answered c result ≡ counted_by kind (rows_by nullable) c room (grown_by (rows_by nullable) c 0 len true false) }
 {

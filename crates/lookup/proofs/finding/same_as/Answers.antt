@@ -1,4 +1,4 @@
--- `lookup::finding::same_as` meets its contract. The loop's invariant is `Matching`, its measure the bytes that are left. Assumes nothing.
+-- `lookup::finding::same_as` meets its contract. The loop's invariant is `Matching`. Assumes nothing.
 use Prim.Native.Nat.{◌-◌}
 use native.Mathlib.Omega.{arith}
 use mathlib.Core.Path.{refl}
