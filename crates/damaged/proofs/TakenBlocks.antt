@@ -16,8 +16,7 @@ use Rattle.format.specs.Opening.{head_of}
 use Rattle.anatomy.specs.declared.Parts.{Parts}
 use Rattle.anatomy.specs.Parts.{parts_of}
 use Rattle.descriptor.specs.declared.Descriptor.{Descriptor}
-use Rattle.damaged.specs.declared.Taken.{Taken}
-use Rattle.damaged.specs.declared.Taken.TheVariants.{Whole, Refused}
+use Rattle.std.specs.Prelude.{Result, Ok, Err}
 use Rattle.damaged.specs.Damaged.{rules_but_15, described_but_15}
 use Rattle.damaged.specs.Taken.{taken_in, taken_of, Takes}
 
@@ -44,24 +43,24 @@ module _ (d : Descriptor) (b : List ℕ) where
   zero_number z = by-column (eqb d.zero 0) (rules_but_15 column d.rows b) z
 
   zero-whole : (k : Kind) → column ≡ Of k Dictionary
-      → taken_in zero column d.rows b ≡ Whole (parts_of k Dictionary d.rows (length b) (head_of Dictionary b))
+      → taken_in zero column d.rows b ≡ Ok (parts_of k Dictionary d.rows (length b) (head_of Dictionary b))
   unfolding taken_in
   zero-whole k n = rw n
 
-  module _ {s : Taken} (answer : s ≡ taken_of d b) where
-    pub taken-whole : {p : Parts} → s ≡ Whole p → Takes d b p
+  module _ {s : Result Parts ℕ} (answer : s ≡ taken_of d b) where
+    pub taken-whole : {p : Parts} → s ≡ Ok p → Takes d b p
     taken-whole {p} q = go (described_but_15 d b) refl (sym answer ∙ q)
       where
-        go : (m : ℕ) → described_but_15 d b ≡ m → taken_in m column d.rows b ≡ Whole p → Takes d b p
+        go : (m : ℕ) → described_but_15 d b ≡ m → taken_in m column d.rows b ≡ Ok p → Takes d b p
         go (suc m) z h = let o : ◌≡◌ {A = ℕ} 0 1 = unfold taken_in in cc in absurd (omega arith)
         go zero z h =
             let n = dictionary-alone column d.rows b (zero_number z) in
             record { kind = n.0; named = n.1; number = z; sound = rw n.1 at (zero_number z); parts = cc (zero-whole n.0 n.1) }
 
-    pub taken_refused : {e : ℕ} → s ≡ Refused e → (described_but_15 d b ≡ e) × (0 < e)
+    pub taken_refused : {e : ℕ} → s ≡ Err e → (described_but_15 d b ≡ e) × (0 < e)
     taken_refused {e} q = go (described_but_15 d b) refl (sym answer ∙ q)
       where
-        go : (m : ℕ) → described_but_15 d b ≡ m → taken_in m column d.rows b ≡ Refused e → (described_but_15 d b ≡ e) × (0 < e)
+        go : (m : ℕ) → described_but_15 d b ≡ m → taken_in m column d.rows b ≡ Err e → (described_but_15 d b ≡ e) × (0 < e)
         go (suc m) z h = let o : suc m ≡ e = unfold taken_in in cc in (z ∙ o, omega (arith, o))
         go zero z h =
             let n = dictionary-alone column d.rows b (zero_number z) in
