@@ -10,10 +10,9 @@ use lib.Dec.{ltb}
 use lib.IntN.{ℤ}
 use lib.ListN.{length, set, take, drop, length-drop}
 use lib.Seq.{length-take-le}
-use Rattle.std.specs.Prelude.{Result, Ok, Err}
+use Rattle.std.specs.Prelude.{Ok, Err}
 use Rattle.limits.specs.declared.refusal.Refusal.{Refusal}
 use Rattle.limits.specs.Limits.{MOST_BYTES, MOST_GIVEN}
-use Rattle.limits.specs.Refusals.{ROOM}
 use Rattle.area.specs.Area.{over}
 use Rattle.area.proofs.Laws.{over-sets}
 use Rattle.encode.proofs.Bools.{or-first, or-none}
@@ -22,7 +21,7 @@ use Rattle.plain.specs.Rows.{Row, int_in, bytes_in}
 use Rattle.plain.specs.Plain.{joined, ends_from}
 use Rattle.nullable.specs.Nullable.{presence}
 use Rattle.fill.specs.Areas.{Areas, areas, is_bytes, short, filled_in, given_bytes}
-use Rattle.slow_answer.specs.Slow.{row_given, answer_of, shown_in}
+use Rattle.slow_answer.specs.Slow.{row_given, shown_in}
 use Rattle.slow_giving.specs.Giving.{Gives, GivesInt, GivesBytes}
 
 -- ---- refused, or written

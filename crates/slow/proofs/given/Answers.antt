@@ -1,5 +1,5 @@
 -- `given` meets its contract: opening's refusals, then 7 behind the last row, then what the row's place shows. Assumes nothing.
-use mathlib.Core.Path.{refl, sym, ap, ◌∙◌}
+use mathlib.Core.Path.{refl, sym, ◌∙◌}
 use Rattle.std.proofs.lemmas.Result.{err_from_is_err_and}
 use Rattle.limits.specs.declared.refusal.Refusal.{Refusal}
 use Rattle.fill.specs.Areas.{areas}

@@ -1,6 +1,5 @@
 -- `counts_number` meets its contract. The loop keeps that the sum so far and the walk over the rest are the whole. Assumes
 -- nothing.
-use Prim.Native.Nat.{◌-◌}
 use native.Mathlib.Omega.{arith}
 use Rattle.rle.proofs.Walking.{walk-used, walk-bad, walk-zero, walk-within, walk-over, walk-sum}
 use Rattle.slow_counts.proofs.Sums.{sums-start, sums-step, number-refused, number-other, number_same}

@@ -1,5 +1,4 @@
 -- `run_of` meets its contract. The loop keeps which row of the runs left is the one asked for. Assumes nothing.
-use Prim.Native.Nat.{◌-◌}
 use native.Mathlib.Omega.{arith}
 use Rattle.slow_counts.proofs.Leaving.{leaving-start, leaving-never, leaving-bad, leaving-here, leaving-len, leaving-step}
 use Rattle.slow_counts.proofs.run_of.Goals as goal

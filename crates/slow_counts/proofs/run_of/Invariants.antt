@@ -1,5 +1,4 @@
 -- `run_of` meets its contract. The loop keeps which row of the runs left is the one asked for. Assumes nothing.
-use Prim.Native.Nat.{◌-◌}
 use Rattle.slow_counts.proofs.Leaving.{Leaving}
 use Rattle.slow_counts.proofs.run_of.Given as goal
 

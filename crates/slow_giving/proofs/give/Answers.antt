@@ -1,5 +1,4 @@
 -- `give` meets its contract: null, or the item that the entry names, by its kind. Assumes nothing.
-use Prim.Native.Nat.{◌-◌}
 use mathlib.Core.Path.{refl}
 use native.Mathlib.Omega.{arith}
 use borrow.Author.Rules.{rules}

@@ -1,5 +1,4 @@
 -- `count_at` meets its contract. The loop's invariant: what the bytes that were passed make of the rest. Assumes nothing.
-use Prim.Native.Nat.{◌-◌}
 use Rattle.slow_numbers.proofs.Counts.{Passed}
 use Rattle.slow_numbers.proofs.count_at.Given as goal
 

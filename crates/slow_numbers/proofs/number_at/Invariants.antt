@@ -1,5 +1,4 @@
 -- `number_at` meets its contract. The loop's invariant: what the bytes that were taken are worth. Assumes nothing.
-use Prim.Native.Nat.{◌-◌}
 use Rattle.slow_numbers.proofs.Digits.{Taken}
 use Rattle.slow_numbers.proofs.number_at.Given as goal
 

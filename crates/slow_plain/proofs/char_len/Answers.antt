@@ -1,6 +1,5 @@
 -- `char_len` meets its contract. The loop's invariant: no byte that was passed is a NUL, so that what is left decides the length.
 -- Assumes nothing.
-use Prim.Native.Nat.{◌-◌}
 use mathlib.Core.Path.{◌≡◌, refl, sym, ◌∙◌}
 use native.Mathlib.Omega.{arith}
 use Rattle.plain.proofs.Chars.{uncut-start, uncut-stop, uncut-step, uncut-end}

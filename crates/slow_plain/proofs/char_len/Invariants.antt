@@ -1,6 +1,5 @@
 -- `char_len` meets its contract. The loop's invariant: no byte that was passed is a NUL, so that what is left decides the length.
 -- Assumes nothing.
-use Prim.Native.Nat.{◌-◌}
 use Rattle.plain.proofs.Chars.{Uncut}
 use Rattle.slow_plain.proofs.char_len.Given as goal
 

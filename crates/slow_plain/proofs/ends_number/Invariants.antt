@@ -1,5 +1,4 @@
 -- `ends_number` meets its contract. The loop's invariant: the ends that are left decide whether all of them rise and which is the last. Assumes nothing.
-use Prim.Native.Nat.{◌-◌}
 use Rattle.plain.proofs.Ends.{Rising}
 use Rattle.slow_plain.proofs.ends_number.Given as goal
 

@@ -1,5 +1,5 @@
 -- `plain_number` meets its contract: the rules of lengths and ends, then text. Assumes nothing.
-use mathlib.Core.Path.{◌≡◌, sym, ◌∙◌}
+use mathlib.Core.Path.{sym, ◌∙◌}
 use native.Mathlib.Omega.{arith}
 use Rattle.plain.proofs.Numbers.{lengths-broken, all-text, not-text}
 use Rattle.slow_plain.proofs.Refused.{refusal-some, passed-on}

@@ -1,5 +1,4 @@
 -- `strings_are_text` meets its contract. The loop's invariant: the items that were passed are text, so that those left decide. Assumes nothing.
-use Prim.Native.Nat.{◌-◌}
 use Rattle.utf8.specs.Utf8.{is_text}
 use Rattle.plain.specs.Plain.{blob_at}
 use Rattle.plain.proofs.TextItems.{Left}

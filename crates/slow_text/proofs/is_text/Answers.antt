@@ -1,5 +1,4 @@
 -- `is_text` meets its contract. The loop's invariant: what is due, and the bytes that are left, decide what is due in the end. Assumes nothing.
-use Prim.Native.Nat.{◌-◌}
 use mathlib.Core.Path.{refl}
 use native.Mathlib.Omega.{arith}
 use Rattle.slow_text.proofs.Going.{going_start, going_step, going_end}

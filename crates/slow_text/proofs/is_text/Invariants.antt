@@ -1,5 +1,4 @@
 -- `is_text` meets its contract. The loop's invariant: what is due, and the bytes that are left, decide what is due in the end. Assumes nothing.
-use Prim.Native.Nat.{◌-◌}
 use Rattle.slow_text.proofs.Going.{Going}
 use Rattle.slow_text.proofs.is_text.Given as goal
 
