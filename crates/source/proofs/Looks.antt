@@ -1,4 +1,5 @@
 -- The first look at a run: the returns of `seen_run`, and what its answer says. Assumes nothing.
+use Rattle.std.specs.Prelude.{Option, Some, None}
 use Prim.Native.Nat.{ℕ, ◌≤◌, ◌<◌}
 use native.Mathlib.Omega.{arith}
 use mathlib.Core.Bool.{Bool, true, false, cond}
@@ -8,21 +9,21 @@ use lib.Dec.{eqb}
 use borrow.Author.Tests.{eq-eqb, ne_eqb, eqb-true, eqb-false}
 use Rattle.rle.specs.declared.Spot.{Spot}
 use Rattle.rle.specs.declared.Piece.{Piece}
-use Rattle.rle.specs.declared.Piece.TheVariants.{Rows, Stuck as NoPiece}
 use Rattle.source.specs.declared.Source.{Source}
 use Rattle.source.specs.declared.Look.{Look}
 use Rattle.source.specs.declared.Look.TheVariants.{Item, Wrong}
 use Rattle.source.specs.Rows.{seen_by, sees_by, look_by}
 use Rattle.source.proofs.AtPlace.{sees-most}
+use Rattle.rle.specs.Pieces.{run_piece}
 
 module _ (s : Source) (marks : List ℕ) (i : ℕ) where
   -- ---- the returns of `seen_run`
-  module _ {x q : Piece} (e : x ≡ q) where
-    pub look-stuck : x ≡ NoPiece → Wrong ≡ look_by s marks i q
+  module _ {x q : Option Piece} (e : x ≡ q) where
+    pub look-stuck : x ≡ None → Wrong ≡ look_by s marks i q
     unfolding look_by
     look-stuck b = rw (← e, b)
 
-    module _ {k : ℕ} {t : Spot} (b : x ≡ Rows k t) where
+    module _ {k : ℕ} {t : Spot} (b : x ≡ Some (run_piece k t)) where
       pub look_none : k ≡ 0 → Item 0 k t ≡ look_by s marks i q
       unfolding look_by
       look_none z = rw (← e, b) (simp (eq-eqb k 0 z))
@@ -37,18 +38,18 @@ module _ (s : Source) (marks : List ℕ) (i : ℕ) where
         look-item h = rw (← e, b, h.0, h.1) (simp (ne_eqb k 0 z))
 
   -- ---- what its answer says
-  abbrev pub Tells : Piece → Look → Type 0
-  Tells q (Item seen k t) = (q ≡ Rows k t) × (seen ≤ s.items) × (0 < k → (sees_by s marks i ≡ true) × (seen ≡ seen_by s.marks marks i)) × (0 < seen → 0 < k)
-  Tells (Rows k t) Wrong = (0 < k) × (sees_by s marks i ≡ false)
-  Tells NoPiece Wrong = Unit
+  abbrev pub Tells : Option Piece → Look → Type 0
+  Tells q (Item seen k t) = (q ≡ Some (run_piece k t)) × (seen ≤ s.items) × (0 < k → (sees_by s marks i ≡ true) × (seen ≡ seen_by s.marks marks i)) × (0 < seen → 0 < k)
+  Tells (Some p) Wrong = (0 < p.rows) × (sees_by s marks i ≡ false)
+  Tells None Wrong = Unit
 
-  pub tells : (q : Piece) → Tells q (look_by s marks i q)
+  pub tells : (q : Option Piece) → Tells q (look_by s marks i q)
   unfolding look_by
-  tells NoPiece = tt
-  tells (Rows k t) = go (eqb k 0) refl (sees_by s marks i) refl
+  tells None = tt
+  tells (Some p) = go (eqb p.rows 0) refl (sees_by s marks i) refl
     where
-      go : (z : Bool) → eqb k 0 ≡ z → (b : Bool) → sees_by s marks i ≡ b
-          → Tells (Rows k t) (cond z (Item 0 k t) (cond b (Item (seen_by s.marks marks i) k t) Wrong))
-      go true h b g = let n : k ≡ 0 = eqb-true k 0 h in (refl, omega arith, (λ l. absurd (omega arith)), (λ l. absurd (omega arith)))
-      go false h true g = let n = eqb-false k 0 h in (refl, sees-most s marks i g, (λ l. (g, refl)), (λ l. omega arith))
-      go false h false g = let n = eqb-false k 0 h in (omega arith, g)
+      go : (z : Bool) → eqb p.rows 0 ≡ z → (b : Bool) → sees_by s marks i ≡ b
+          → Tells (Some p) (cond z (Item 0 p.rows p.next) (cond b (Item (seen_by s.marks marks i) p.rows p.next) Wrong))
+      go true h b g = let n : p.rows ≡ 0 = eqb-true p.rows 0 h in (refl, omega arith, (λ l. absurd (omega arith)), (λ l. absurd (omega arith)))
+      go false h true g = let n = eqb-false p.rows 0 h in (refl, sees-most s marks i g, (λ l. (g, refl)), (λ l. omega arith))
+      go false h false g = let n = eqb-false p.rows 0 h in (omega arith, g)
