@@ -144,8 +144,7 @@ pub fn write_count(value: u32, out: &mut [u8], at: usize) -> usize
     ensures value { result ≡ at + length (spelling value) }
     ensures out_after { out.new ≡ sets out.old at (spelling value) }
 {
-    let wrote = varint::encode_u32(value, out, at);
-    let varint::Wrote::Bytes { len } = wrote else {
+    let Some(len) = varint::encode_u32(value, out, at) else {
         return at;
     };
     at + len

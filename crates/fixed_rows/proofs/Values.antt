@@ -1,4 +1,5 @@
 -- The values of rows of a fixed kind: of one item, and the step of the loop over runs. Assumes nothing.
+use Rattle.std.specs.Prelude.{Some}
 use Prim.Native.Nat.{ℕ, zero, suc, ◌+◌, ◌-◌, ◌*◌, ◌≤◌, ◌<◌}
 use native.Mathlib.Omega.{arith}
 use mathlib.Core.List.{List}
@@ -14,12 +15,12 @@ use Rattle.plain.specs.Rows.{int_in}
 use Rattle.plain.specs.Plain.{least_bytes, plain_row, fixed_at}
 use Rattle.plain.proofs.Items.{item_room}
 use Rattle.rle.specs.declared.Spot.{Spot}
-use Rattle.rle.specs.declared.Piece.TheVariants.{Rows}
 use Rattle.dict.specs.Dictionary.{entry_row}
 use Rattle.source.specs.declared.Source.{Source}
 use Rattle.source.specs.Rows.{shown_by, int_of, int_by, piece_of}
 use Rattle.source.proofs.AtPlace.{int-shown}
 use Rattle.source.proofs.Filled.{Filled, filled_on}
+use Rattle.rle.specs.Pieces.{run_piece}
 
 -- ---- one item, counted from 1 on
 module _ (p : Primitive) (n : ℕ) (items : List ℕ) (slot : ℕ) where
@@ -47,7 +48,7 @@ module _ (s : Source) (marks items counts : List ℕ) (n : ℕ) (from : Spot) (v
 
   pub values-on :
       {p : Primitive} → s.kind ≡ Fixed p → {at : Spot} {left to : ℕ} {values : List ℤ} → Values at left to values → 0 < left
-      → {k : ℕ} {t : Spot} → piece_of s counts at left ≡ Rows k t → {slot : ℕ} → (0 < k → slot ≡ shown_by s.marks marks at.run)
+      → {k : ℕ} {t : Spot} → piece_of s counts at left ≡ Some (run_piece k t) → {slot : ℕ} → (0 < k → slot ≡ shown_by s.marks marks at.run)
       → {x v : ℤ} → x ≡ v → v ≡ int_of (Fixed p) s.items items slot
       → {values' : List ℤ} → values' ≡ sets values to (replicate k x) → Values t (left - k) (to + k) values'
   values-on kind {at} w l {k} b {slot} shows {x} i v q = filled_on w l refl b same q

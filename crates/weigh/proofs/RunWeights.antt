@@ -1,4 +1,5 @@
 -- The step of the loops that weigh: what the item of a run that is looked at tells of the run's rows, whatever the kind. Assumes nothing.
+use Rattle.std.specs.Prelude.{Option, Some, None}
 use Prim.Native.Nat.{ℕ, zero, suc, ◌+◌, ◌-◌, ◌*◌, ◌≤◌, ◌<◌}
 use native.Mathlib.Nat.{mul-zero, min-le_right}
 use native.Mathlib.Omega.{arith}
@@ -15,7 +16,6 @@ use Rattle.plain.specs.Rows.{bytes_in}
 use Rattle.plain.specs.Plain.{end_at, start_at, blob_at, ends_good, plain_row}
 use Rattle.rle.specs.declared.Spot.{Spot}
 use Rattle.rle.specs.declared.Piece.{Piece}
-use Rattle.rle.specs.declared.Piece.TheVariants.{Rows, Stuck as NoPiece}
 use Rattle.dict.specs.Dictionary.{entry_row, entry_good}
 use Rattle.source.specs.declared.Source.{Source}
 use Rattle.source.specs.declared.Look.{Look}
@@ -23,6 +23,7 @@ use Rattle.source.specs.Rows.{shown_by, seen_by, text_of, size_by, good_by, piec
 use Rattle.source.proofs.AtPlace.{part_length, entry-there, entry-some, text-none, text-some, text-shown, sizes, unseen-bad, seen-good}
 use Rattle.source.proofs.Looks.{Tells, tells}
 use Rattle.weigh.proofs.Weights.{Weighing, capped_small, weighing-stuck, weighing-broken, weighing-on}
+use Rattle.rle.specs.Pieces.{run_piece}
 
 -- ---- an item that is looked at, counted from 1 on
 module _ (kind : Kind) (n : ℕ) (part : List ℕ) where
@@ -113,10 +114,10 @@ module _ (s : Source) (marks items counts : List ℕ) (n : ℕ) (from : Spot) wh
         → None ≡ weighed_by (good_by s marks items) (size_by s marks items) (steps_of s counts n from)
     weighs-wrong q = go (piece_of s counts at left) refl (subst (Tells s marks at.run _) (sym q) (tells s marks at.run _))
       where
-        go : (p : Piece) → p ≡ piece_of s counts at left → Tells s marks at.run p None
+        go : (p : Option Piece) → p ≡ piece_of s counts at left → Tells s marks at.run p None
             → None ≡ weighed_by (good_by s marks items) (size_by s marks items) (steps_of s counts n from)
-        go NoPiece g h = weighing-stuck w l g refl
-        go (Rows k t) g h = weighing-broken w l g refl h.0 (unseen-bad s marks at.run items h.1)
+        go None g h = weighing-stuck w l g refl
+        go (Some p) g h = weighing-broken w l g refl h.0 (unseen-bad s marks at.run items h.1)
 
     module _ {x : Look} (q : Some x ≡ look_by s marks at.run (piece_of s counts at left)) where
       abbrev seen : ℕ
@@ -131,7 +132,7 @@ module _ (s : Source) (marks items counts : List ℕ) (n : ℕ) (from : Spot) wh
       told : Tells s marks at.run (piece_of s counts at left) (Some x)
       told = subst (Tells s marks at.run _) (sym q) (tells s marks at.run _)
 
-      pub weighs-piece : piece_of s counts at left ≡ Rows k t
+      pub weighs-piece : piece_of s counts at left ≡ Some (run_piece k t)
       weighs-piece = told.0
 
       pub weighs-seen : (seen ≤ s.items) × (0 < seen → seen ≡ seen_by s.marks marks at.run)

@@ -1,4 +1,5 @@
 -- The weight of rows, run by run: the sum is capped on the way, and the first row that isn't good ends it. Assumes nothing.
+use Rattle.std.specs.Prelude.{Option, Some, None}
 use Prim.Native.Nat.{ℕ, zero, suc, ◌+◌, ◌-◌, ◌*◌, ◌^◌, ◌≤◌, ◌<◌}
 use native.Mathlib.Nat.{add-zero, zero-mul, mul-le-mul_left}
 use native.Mathlib.Omega.{arith}
@@ -14,9 +15,8 @@ use Rattle.limits.specs.Limits.{MOST_BYTES, MOST_GIVEN}
 use Rattle.plain.specs.Plain.{all_of}
 use Rattle.rle.specs.declared.Spot.{Spot}
 use Rattle.rle.specs.declared.Piece.{Piece}
-use Rattle.rle.specs.declared.Piece.TheVariants.{Rows, Stuck as NoPiece}
 use Rattle.rle.specs.Stepping.{Steps, stuck, rows, before}
-use Rattle.rle.specs.Pieces.{piece_in, steps_in}
+use Rattle.rle.specs.Pieces.{piece_in, steps_in, run_piece}
 use Rattle.source.specs.Rows.{StartsBy, capped, sum_of, weighed, weighed_by}
 use Rattle.source.proofs.Folds.{all_append, all_same, all-bad, sum-append, sum_same}
 use Rattle.source.proofs.Progress.{Progress, progress_start, progress-end, progress-stuck, progress-on, whole-on}
@@ -87,11 +87,11 @@ module _ {p : ℕ → Bool} {f : ℕ → ℕ} {coded : Bool} {runs : ℕ} {count
   pub weighing-end : left ≤ 0 → Some (weighed total at) ≡ weighed_by p f (steps_in coded runs counts n from)
   weighing-end h = rw (w.weight, progress-end w.progress h) (weighed-good p f w.progress.done at w.right)
 
-  module _ (l : 0 < left) {x : Piece} (e : x ≡ piece_in coded runs counts at left) where
-    pub weighing-stuck : x ≡ NoPiece → None ≡ weighed_by p f (steps_in coded runs counts n from)
+  module _ (l : 0 < left) {x : Option Piece} (e : x ≡ piece_in coded runs counts at left) where
+    pub weighing-stuck : x ≡ None → None ≡ weighed_by p f (steps_in coded runs counts n from)
     weighing-stuck b = weighed-stuck p f (progress-stuck w.progress l e b)
 
-    module _ {k : ℕ} {t : Spot} (b : x ≡ Rows k t) where
+    module _ {k : ℕ} {t : Spot} (b : x ≡ Some (run_piece k t)) where
       pub weighing-broken : 0 < k → p at.run ≡ false → None ≡ weighed_by p f (steps_in coded runs counts n from)
       weighing-broken m h =
           rw (whole-on w.progress l e b) (weighed-bad p f (w.progress.done ++ replicate k at.run) _ (all-bad p w.progress.done k at.run m h))
