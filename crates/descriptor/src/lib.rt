@@ -23,7 +23,7 @@ pub struct Descriptor {
 pub fn unpack(bytes: [u8; 8]) -> Descriptor
     ensures { result ≡ descriptor_of (take 8 bytes) }
 {
-    let n = encode::high8(bytes);
+    let n = encode::high::<8>(bytes);
     Descriptor {
         kind: (n / 0x1000_0000_0000_0000) as usize,
         encoding: (n / 0x0200_0000_0000_0000 % 8) as usize,
@@ -37,7 +37,7 @@ pub fn unpack(bytes: [u8; 8]) -> Descriptor
 pub fn pack(d: Descriptor) -> [u8; 8]
     ensures { result ≡ descriptor_bytes d }
 {
-    encode::high_first(packed(d))
+    encode::high_first::<8>(packed(d))
 }
 
 fn packed(d: Descriptor) -> u64

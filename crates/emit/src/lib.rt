@@ -23,7 +23,7 @@ pub fn put_low4(n: usize, out: &mut [u8], at: usize) -> usize
     ensures value { result ≡ at + 4 }
     ensures out_after { out.new ≡ sets out.old at (little 4 n) }
 {
-    area::put(encode::low_first4(n as u64), 4, out, at);
+    area::put(encode::low_first::<4>(n as u64), 4, out, at);
     at + 4
 }
 
@@ -178,7 +178,7 @@ fn write_runs(n: usize, len: usize, counts: &[u32], out: &mut [u8], at: usize) -
 fn key_bits(key: i32) -> usize
     ensures { result ≡ of_z w32 key }
 {
-    (encode::bits_of(key as i64) % 0x1_0000_0000) as usize
+    ((key as i64).cast_unsigned() % 0x1_0000_0000) as usize
 }
 
 // The first `n` keys.
@@ -274,7 +274,7 @@ pub fn write_dictionary(
         ≡ sets out.old 0 (held_dictionary kind entries len n items.now ends.now counts.now keys.now) }
 {
     let behind = write_key_block(n, size, counts, keys, out, 12);
-    area::put(encode::high_first((behind - 12) as u64), 8, out, 0);
-    area::put(encode::high_first4(entries as u64), 4, out, 8);
+    area::put(encode::high_first::<8>((behind - 12) as u64), 8, out, 0);
+    area::put(encode::high_first::<4>(entries as u64), 4, out, 8);
     write_plain(kind, entries, len, items, ends, out, behind);
 }

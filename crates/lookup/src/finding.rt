@@ -95,12 +95,12 @@ fn low<const W: usize>(item: [u8; 8]) -> u64
     ensures { result ≡ number (take W item) }
 {
     if W == 2 {
-        return encode::low2(item);
+        return encode::low::<2>(item);
     }
     if W == 4 {
-        return encode::low4(item);
+        return encode::low::<4>(item);
     }
-    encode::low8(item)
+    encode::low::<8>(item)
 }
 
 // The first of `n` items of `W` bytes that have the number `want`, or `n`. The bytes are compared as one number, lowest first, whatever
@@ -133,9 +133,9 @@ pub fn find_fixed(p: Primitive, items: &[u8], n: usize, value: i64) -> usize
             let item = p.encode(value);
             find_bool(items, n, item[0] != 0)
         }
-        Shape::Low2 => find_number::<2>(items, n, encode::low2(p.encode(value))),
-        Shape::Low4 | Shape::High4 => find_number::<4>(items, n, encode::low4(p.encode(value))),
-        Shape::Low8 | Shape::High8 => find_number::<8>(items, n, encode::low8(p.encode(value))),
+        Shape::Low2 => find_number::<2>(items, n, encode::low::<2>(p.encode(value))),
+        Shape::Low4 | Shape::High4 => find_number::<4>(items, n, encode::low::<4>(p.encode(value))),
+        Shape::Low8 | Shape::High8 => find_number::<8>(items, n, encode::low::<8>(p.encode(value))),
     }
 }
 

@@ -103,5 +103,5 @@ pub fn same_word<const W: usize>(a: &[u8], b: &[u8], k: usize) -> bool
     ensures { result ≡ word_at W a.now b.now k }
 {
     let at = k * W;
-    encode::low8(plain::item(a, at, W)) == encode::low8(plain::item(b, at, W))
+    encode::low::<8>(plain::item(a, at, W)) == encode::low::<8>(plain::item(b, at, W))
 }

@@ -137,5 +137,5 @@ fn four(file: &[u8], at: usize) -> usize
     requires { at + 4 ≤ length file.now }
     ensures { (result ≡ number_of high-first (take 4 (drop at file.now))) × (result < 2 ^ 32) }
 {
-    encode::high4(plain::item(file, at, 4)) as usize
+    encode::high::<4>(plain::item(file, at, 4)) as usize
 }

@@ -139,6 +139,6 @@ fn put_entry(numbers: &[usize], place: usize, at: usize, out: &mut [u8], to: usi
     let d = descriptor_at(numbers, place);
     let len = numbers[place + 4];
     area::put(descriptor::pack(d), 8, out, to);
-    area::put(encode::high_first4(at as u64), 4, out, to + 8);
-    area::put(encode::high_first4(len as u64), 4, out, to + 12);
+    area::put(encode::high_first::<4>(at as u64), 4, out, to + 8);
+    area::put(encode::high_first::<4>(len as u64), 4, out, to + 12);
 }
