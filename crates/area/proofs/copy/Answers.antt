@@ -1,17 +1,6 @@
--- `area::copy` meets its contract. The loop's invariant is `Copying`, its measure the bytes that are left. Assumes nothing.
-use native.Mathlib.Omega.{arith}
-use Prim.Native.Nat.{◌-◌}
-use Rattle.area.proofs.Loops as laws
+-- `area::copy` meets its contract: the part that is lent holds the bytes. Assumes nothing.
+use Rattle.area.proofs.Loops.{copied}
 use Rattle.area.proofs.copy.Goals as goal
 
-pub loop-i-init : goal.loop-i-init
-loop-i-init c = laws.copying-start _ _ _ _ _ (omega arith)
-
-pub loop-i-preserved : goal.loop-i-preserved
-loop-i-preserved c = laws.copying-step c.loop-i.invariant (omega arith) (omega arith)
-
-pub shape_of-dst : goal.shape_of-dst
-shape_of-dst c = c.loop-i.invariant.long
-
 pub returns : goal.returns
-returns c = laws.copying-end c.loop-i.invariant (omega arith)
+returns c = copied _ _ _ _ _ c.copy_from_slice.ensures.after c.requires.0 c.requires.1
