@@ -1,13 +1,11 @@
 -- A sequence of calls on one reader and one block, and what they hand out. Assumes nothing.
-use Rattle.std.specs.Prelude.{ℕ, zero, suc, ◌-◌, cond, List, [], ◌∷◌, map, eqb, pos, get_or, take, drop}
+use Rattle.std.specs.Prelude.{Result, Ok, Err, ℕ, zero, suc, ◌-◌, cond, List, [], ◌∷◌, map, eqb, pos, get_or, take, drop}
 use Rattle.encode.specs.declared.Kind.{Kind}
 use Rattle.plain.specs.Rows.{Row, null, int, bytes}
 use Rattle.plain.specs.Plain.{places}
 use Rattle.format.specs.declared.Column.{Column}
 use Rattle.format.specs.declared.Column.TheVariants.{Of, Unknown}
 use Rattle.block.specs.declared.Reader.{Reader}
-use Rattle.block.specs.declared.Opened.{Opened}
-use Rattle.block.specs.declared.Opened.TheVariants.{Open, Refused}
 use Rattle.format.specs.Blocks.{column_of}
 use Rattle.block.specs.Reading.{is_bytes, Areas, Batch, read}
 
@@ -54,6 +52,6 @@ play r b [] = []
 play r b (c ∷ cs) = answer_to r b c ∷ play (after r b c) b cs
 
 -- from the opening on
-unfoldable pub play_opened : Opened → List ℕ → List Call → List Answer
-play_opened (Open r) b cs = play r b cs
-play_opened (Refused e) b cs = refused e ∷ []
+unfoldable pub play_opened : Result Reader ℕ → List ℕ → List Call → List Answer
+play_opened (Ok r) b cs = play r b cs
+play_opened (Err e) b cs = refused e ∷ []

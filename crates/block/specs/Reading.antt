@@ -1,6 +1,6 @@
 -- 01, "Reading", and 02 (iv) and (vii): opening, read and remaining as functions of the record, the arguments, the block and what the lent areas hold, for every
 -- record and every block. What is read is said row by row; anatomy has the tests of the numbers at a block's head, and fill the lent areas. Assumes nothing.
-use Rattle.std.specs.Prelude.{ℕ, zero, suc, ◌+◌, ◌-◌, min, Bool, cond, not, ◌&&◌, ◌||◌, List, map, ltb, eqb, length}
+use Rattle.std.specs.Prelude.{Result, Ok, Err, ℕ, zero, suc, ◌+◌, ◌-◌, min, Bool, cond, not, ◌&&◌, ◌||◌, List, map, ltb, eqb, length}
 use Rattle.limits.specs.Limits.{MOST_BYTES}
 use Rattle.limits.specs.Refusals.{ROOM, NO_ROWS, TOO_FAR, DISAGREE}
 use Rattle.encode.specs.declared.Kind.{Kind}
@@ -21,8 +21,6 @@ use Rattle.anatomy.specs.Tests.{part_outside, head_wrong, row_good}
 pub use Rattle.fill.specs.Areas.{Areas, areas}
 unfoldable pub use Rattle.fill.specs.Areas.{is_bytes, short, filled_in, given_bytes}
 use Rattle.block.specs.declared.Reader.{Reader}
-use Rattle.block.specs.declared.Opened.{Opened}
-use Rattle.block.specs.declared.Opened.TheVariants.{Open, Refused}
 use Rattle.block.specs.declared.Opening.{Opening}
 use Rattle.block.specs.declared.Given.{Given}
 use Rattle.block.specs.declared.Left.{Left}
@@ -46,11 +44,11 @@ unfoldable pub head_in : Column → List ℕ → Head
 head_in Unknown b = head 0 0 0 0
 head_in (Of k e) b = head_of e b
 
-unfoldable pub opened_by : ℕ → Reader → Opened
-opened_by zero r = Open r
-opened_by (suc e) r = Refused (suc e)
+unfoldable pub opened_by : ℕ → Reader → Result Reader ℕ
+opened_by zero r = Ok r
+opened_by (suc e) r = Err (suc e)
 
-unfoldable pub opened : ℕ → ℕ → ℕ → ℕ → List ℕ → Opened
+unfoldable pub opened : ℕ → ℕ → ℕ → ℕ → List ℕ → Result Reader ℕ
 opened kind encoding width n b =
     opened_by (open_number kind encoding width n b) (reader_at kind encoding width n (length b) (head_in (column_of kind encoding width) b))
 
@@ -59,9 +57,9 @@ abbrev pub no_reader : Reader
 no_reader = reader_at 255 0 0 0 0 (head 0 0 0 0)
 
 -- the answer of opening as a number and a record
-unfoldable pub opening_of : Opened → Opening
-opening_of (Open r) = record { number = 0; reader = r }
-opening_of (Refused e) = record { number = e; reader = no_reader }
+unfoldable pub opening_of : Result Reader ℕ → Opening
+opening_of (Ok r) = record { number = 0; reader = r }
+opening_of (Err e) = record { number = e; reader = no_reader }
 
 -- ---- the record contradicts itself
 unfoldable pub wrong : Kind → Encoding → Reader → Bool

@@ -6,6 +6,7 @@ use mathlib.Core.List.{List}
 use mathlib.Core.Path.{◌≡◌, refl, sym, ap, ◌∙◌}
 use lib.Dec.{eqb}
 use lib.ListN.{length}
+use Rattle.std.specs.Prelude.{Err}
 use Rattle.limits.specs.Refusals.{COLUMN}
 use Rattle.encode.specs.declared.Kind.{Kind}
 use Rattle.format.specs.declared.Encoding.{Encoding}
@@ -18,8 +19,6 @@ use Rattle.anatomy.specs.declared.Parts.{Parts}
 use Rattle.anatomy.specs.Parts.{parts_of, Right}
 use Rattle.block.specs.declared.Reader.{Reader}
 use Rattle.block.specs.declared.Opening.{Opening}
-use Rattle.block.specs.declared.Opened.{Opened}
-use Rattle.block.specs.declared.Opened.TheVariants.{Refused as NotOpened}
 use Rattle.block.specs.Reading.{reader_at, head_in, opened_by, opened, opening_of}
 use Rattle.reading_laws.proofs.RowsLeft.{start}
 use Rattle.descriptor.specs.declared.Descriptor.{Descriptor}
@@ -29,13 +28,13 @@ use Rattle.comparing.specs.declared.sides.Side.TheVariants.{Whole, Refused}
 use Rattle.comparing.specs.Taken.{side_in, side_of, Opens}
 
 -- an opening by a number and a zero bit
-by_number : (t : Bool) (m : ℕ) (r : Reader) → (opening_of (cond t (opened_by m r) (NotOpened COLUMN))).number ≡ cond t m COLUMN
+by_number : (t : Bool) (m : ℕ) (r : Reader) → (opening_of (cond t (opened_by m r) (Err COLUMN))).number ≡ cond t m COLUMN
 unfolding opening_of opened_by
 by_number true zero r = refl
 by_number true (suc m) r = refl
 by_number false m r = refl
 
-by-reader : (t : Bool) (m : ℕ) (r : Reader) → cond t m COLUMN ≡ 0 → (opening_of (cond t (opened_by m r) (NotOpened COLUMN))).reader ≡ r
+by-reader : (t : Bool) (m : ℕ) (r : Reader) → cond t m COLUMN ≡ 0 → (opening_of (cond t (opened_by m r) (Err COLUMN))).reader ≡ r
 unfolding opening_of opened_by
 by-reader true zero r z = refl
 by-reader true (suc m) r z = absurd (omega arith)

@@ -29,16 +29,16 @@ module _ (p : Parts) (from : Spot) (b : List ℕ) (n : ℕ) where
     pub read : Read p from b n is next
     pub weight : total ≡ capped (sum_of (size_in p b) is)
 
-  pub looked-stuck : (a : Areas) → None ≡ weighed_by good size (steps_by p from b n) → refused_filling DISAGREE from a ≡ filling p from b n a
+  pub looked-stuck : (a : Areas) → None ≡ weighed_by good size (steps_by p from b n) → refused_filling DISAGREE a ≡ filling p from b n a
   unfolding weighed_by filling_by
   looked-stuck a h = go (steps_by p from b n) h
     where
-      go : (w : Steps) → None ≡ weighed_by good size w → refused_filling DISAGREE from a ≡ filling_by p from b a w
+      go : (w : Steps) → None ≡ weighed_by good size w → refused_filling DISAGREE a ≡ filling_by p from b a w
       go stuck q = refl
       go (rows is t) q = test (all_of good is) refl q
         where
           test : (x : Bool) → all_of good is ≡ x → None ≡ cond x (Some (weighed (capped (sum_of size is)) t)) None
-              → refused_filling DISAGREE from a ≡ filling_by p from b a (rows is t)
+              → refused_filling DISAGREE a ≡ filling_by p from b a (rows is t)
           test true e z = let y : ◌≡◌ {A = ℕ} 0 1 = cc in absurd (omega arith)
           test false e z = rw e
 

@@ -8,6 +8,7 @@ use lib.Dec.{ltb, eqb}
 use lib.IntN.{ℤ}
 use lib.ListN.{length, take, drop, length-drop, length-replicate}
 use borrow.Author.Tests.{eq-eqb, ne_eqb, ltb-false}
+use Rattle.std.specs.Prelude.{Result, Ok, Err}
 use Rattle.limits.specs.Limits.{MOST_INPUT}
 use Rattle.limits.specs.Refusals.{COLUMN, LIMIT, CUT}
 use Rattle.encode.specs.declared.Kind.{Kind}
@@ -21,8 +22,6 @@ use Rattle.format.specs.Blocks.{with_encoding, column_of}
 use Rattle.block.specs.declared.Reader.{Reader}
 use Rattle.block.specs.declared.Given.{Given}
 use Rattle.block.specs.declared.Left.{Left}
-use Rattle.block.specs.declared.Opened.{Opened}
-use Rattle.block.specs.declared.Opened.TheVariants.{Open, Refused}
 use Rattle.block.specs.Reading.{areas, opened, left, remaining_in, remaining, read}
 use Rattle.descriptor.specs.declared.Descriptor.{Descriptor}
 use Rattle.descriptor.specs.Descriptor.{descriptor_of, described_opened}
@@ -130,24 +129,24 @@ rows-given {b = b} room l (suc m) r is g =
     ap (λ (t : Bool). cond t (rows_refused m (next_row r b room).reader b room) (next_row r b room).number) (eq-eqb (next_row r b room).number 0 x.number)
     ∙ rows-given room l m (next_row r b room).reader x.rest x.stands
 
-pub opened-listed : (kind encoding width n : ℕ) (b : List ℕ) (r : Reader) → opened kind encoding width n b ≡ Open r → length b ≤ MOST_INPUT → listed r b ≡ 0
+pub opened-listed : (kind encoding width n : ℕ) (b : List ℕ) (r : Reader) → opened kind encoding width n b ≡ Ok r → length b ≤ MOST_INPUT → listed r b ≡ 0
 unfolding after_all
 opened-listed kind encoding width n b r here l =
     let z = (counts-add-up kind encoding width n b r here []).0 in
     sym (rows-listed r b refl z refl (sym (rows-given MOST_INPUT l (min (remaining r).rows 1000) r _ (found kind encoding width n b r here).stands)))
 
 -- of an input that is opened
-pub input-listed : (s : List ℕ) (r : Reader) → Open r ≡ input_opened s → listed r (block_in s) ≡ 0
+pub input-listed : (s : List ℕ) (r : Reader) → Ok r ≡ input_opened s → listed r (block_in s) ≡ 0
 unfolding input_opened block_in described_opened
 input-listed s r q = go (ltb (length s) 8) (ltb MOST_INPUT (length s)) (eqb d.zero 0) refl q
   where
     d : Descriptor
     d = descriptor_of (take 8 s)
 
-    o : Opened
+    o : Result Reader ℕ
     o = opened d.kind d.encoding d.width d.rows (drop 8 s)
 
-    go : (x y z : Bool) → ltb MOST_INPUT (length s) ≡ y → Open r ≡ cond x (Refused CUT) (cond y (Refused LIMIT) (cond z o (Refused COLUMN)))
+    go : (x y z : Bool) → ltb MOST_INPUT (length s) ≡ y → Ok r ≡ cond x (Err CUT) (cond y (Err LIMIT) (cond z o (Err COLUMN)))
         → listed r (cond x s (drop 8 s)) ≡ 0
     go true y z u p = let z : ◌≡◌ {A = ℕ} 0 1 = cc in absurd (omega arith)
     go false true z u p = let z : ◌≡◌ {A = ℕ} 0 1 = cc in absurd (omega arith)

@@ -8,7 +8,7 @@ ghost use Rattle.block.specs.Reading.{remaining};
 ghost use Rattle.text.specs.Input.{input_opened};
 ghost use Rattle.printing.specs.Printing.{refusal_of, next_row, rows_refused, listed};
 
-use block::{Given, Opened, Reader};
+use block::{Given, Reader};
 use encode::{FoundKind, Kind};
 use limits::refusal;
 
@@ -19,8 +19,9 @@ pub fn print(input: &[u8]) -> u8
 {
     let answer = text::open(input);
     match answer {
-        Opened::Open(reader) => print_rows(reader, text::block_of(input)),
-        Opened::Refused(number) => {
+        Ok(reader) => print_rows(reader, text::block_of(input)),
+        Err(refusal) => {
+            let number = u8::from(refusal);
             say_refused(number);
             number
         }

@@ -1,7 +1,8 @@
 // Commands 3 to 5: opening, reads, a given block.
 use crate::showing::{show_named, show_rows};
 use crate::{Reading, named_at};
-use block::{Opened, Reader};
+use block::Reader;
+use limits::refusal::Refusal;
 use script::{first, number, past, refused, rest, say, show_size};
 
 // The part as the block. Nothing, where it is too long.
@@ -24,11 +25,11 @@ fn give_block(s: &[u8], from: Reading, block: &mut [u8]) -> Reading {
     next
 }
 
-fn opened(answer: Opened) -> Reader {
+fn opened(answer: Result<Reader, Refusal>) -> Reader {
     match answer {
-        Opened::Open(reader) => reader,
-        Opened::Refused(number) => {
-            refused(number);
+        Ok(reader) => reader,
+        Err(refusal) => {
+            refused(u8::from(refusal));
             block::no_reader()
         }
     }

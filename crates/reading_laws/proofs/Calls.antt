@@ -11,6 +11,7 @@ use lib.Dec.{ltb}
 use lib.ListN.{length, take, drop, length-append, length-take, length-drop, length-map, drop_of_length-le}
 use lib.Seq.{take-nil}
 use borrow.Author.Tests.{le-ltb, ltb-false}
+use Rattle.std.specs.Prelude.{Result, Ok}
 use Rattle.limits.specs.Limits.{MOST_GIVEN}
 use Rattle.limits.specs.Refusals.{ROOM, NO_ROWS, TOO_FAR}
 use Rattle.encode.specs.declared.Kind.{Kind}
@@ -22,8 +23,6 @@ use Rattle.format.specs.declared.Column.TheVariants.{Of, Unknown}
 use Rattle.format.specs.Blocks.{column_of}
 use Rattle.format.specs.Opening.{head_of, places_of, row_at, rows_of, column_number, open_number}
 use Rattle.block.specs.declared.Reader.{Reader}
-use Rattle.block.specs.declared.Opened.{Opened}
-use Rattle.block.specs.declared.Opened.TheVariants.{Open}
 use Rattle.block.specs.Reading.{Areas, is_bytes, short, head_in, reader_at, opened_by, opened, left, remaining_in, remaining, asks_nothing, read}
 use Rattle.block.specs.Calls.{Call, reading, Answer, gave, refused, answer_to, after, play, play_opened}
 use Rattle.reading_laws.specs.Calls.{due, moves, expected, handed_out, passed_over, unskipped, after_all}
@@ -170,7 +169,7 @@ module _ (k : Kind) (e : Encoding) (n : ℕ) (b : List ℕ) where
   remains r is g = rw g.column (simp (not-wrong k e r g.right) (ap (λ (m : ℕ). left 0 m r) (sym g.count)))
 
 -- ---- from the opening on
-pub open_told : (m : ℕ) (s r : Reader) → opened_by m s ≡ Open r → (m ≡ 0) × (s ≡ r)
+pub open_told : (m : ℕ) (s r : Reader) → opened_by m s ≡ Ok r → (m ≡ 0) × (s ≡ r)
 unfolding opened_by
 open_told zero s r q = (refl, cc)
 open_told (suc m) s r q = let z : ◌≡◌ {A = ℕ} 0 1 = cc in absurd (omega arith)
@@ -182,7 +181,7 @@ unknown-told n b q = omega arith
 module _ (kind encoding width n : ℕ) (b : List ℕ) where
   -- a sound block opens
   pub opens : (k : Kind) (e : Encoding) → open_number kind encoding width n b ≡ 0 → column_of kind encoding width ≡ Of k e
-      → opened kind encoding width n b ≡ Open (reader_at kind encoding width n (length b) (head_of e b))
+      → opened kind encoding width n b ≡ Ok (reader_at kind encoding width n (length b) (head_of e b))
   unfolding opened opened_by head_in
   opens k e z c = rw (z, c)
 
@@ -190,7 +189,7 @@ module _ (kind encoding width n : ℕ) (b : List ℕ) where
   unfolding open_number
   sound k e z c = ap (λ (x : Column). column_number x n b) (sym c) ∙ z
 
-  opened-by : {o : Opened} → opened kind encoding width n b ≡ o
+  opened-by : {o : Result Reader ℕ} → opened kind encoding width n b ≡ o
       → opened_by (open_number kind encoding width n b) (reader_at kind encoding width n (length b) (head_in (column_of kind encoding width) b)) ≡ o
   unfolding opened
   opened-by q = q
@@ -213,7 +212,7 @@ module _ (kind encoding width n : ℕ) (b : List ℕ) where
   rows-in-order k e z c cs = rw (any-calls k e z c cs) (expected-in-order k (rows_of k e n b) cs)
 
   -- ---- of the reader that calls reach
-  module _ (r : Reader) (here : opened kind encoding width n b ≡ Open r) where
+  module _ (r : Reader) (here : opened kind encoding width n b ≡ Ok r) where
     pub record Found : Type 0 where
       pub k : Kind
       pub e : Encoding

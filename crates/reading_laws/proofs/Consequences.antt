@@ -8,6 +8,7 @@ use mathlib.Core.Logic.{◌↔◌}
 use mathlib.Core.Path.{◌≡◌, refl, sym, ap, subst, ◌∙◌}
 use lib.Dec.{ltb, eqb}
 use lib.ListN.{length, length-map}
+use Rattle.std.specs.Prelude.{Result, Ok, Err}
 use Rattle.limits.specs.Refusals.{ROOM, NO_ROWS, TOO_FAR, DISAGREE}
 use Rattle.area.specs.Area.{over}
 use Rattle.encode.specs.declared.Primitive.{Primitive}
@@ -26,8 +27,6 @@ use Rattle.format.specs.Opening.{open_number, row_at}
 use Rattle.anatomy.specs.Tests.{row_good}
 use Rattle.block.specs.declared.Reader.{Reader}
 use Rattle.block.specs.declared.Given.{Given}
-use Rattle.block.specs.declared.Opened.{Opened}
-use Rattle.block.specs.declared.Opened.TheVariants.{Open, Refused}
 use Rattle.block.specs.Reading.{opened_by, opened, wrong, next_steps, moved, counted, nulls_in}
 use Rattle.block.specs.Reading.{Areas, areas, Batch, is_bytes, short, filled_in, given_bytes, refused_batch, give, batch_of, up_to, whole, pass_then, read_in, asks_nothing, read}
 use Rattle.block.specs.Calls.{Call, reading, Answer, gave, refused, handed, column_in, read_answer, answer_to, after, play, play_opened}
@@ -37,21 +36,21 @@ use Rattle.reading_laws.specs.Room.{SameRoom, SameBatch, SameCall, SameCalls}
 use Rattle.reading_laws.proofs.HandedRows.{read_back}
 
 -- ---- an unsound block is never opened
-by_number : (e : ℕ) (r : Reader) → (e ≡ 0 → ⊥) → opened_by e r ≡ Refused e
+by_number : (e : ℕ) (r : Reader) → (e ≡ 0 → ⊥) → opened_by e r ≡ Err e
 unfolding opened_by
 by_number zero r h = absurd (h refl)
 by_number (suc e) r h = refl
 
 module _ (kind encoding width n : ℕ) (b : List ℕ) (unsound : open_number kind encoding width n b ≡ 0 → ⊥) where
   -- opening gives the number alone
-  pub unsound-refused : opened kind encoding width n b ≡ Refused (open_number kind encoding width n b)
+  pub unsound-refused : opened kind encoding width n b ≡ Err (open_number kind encoding width n b)
   unfolding opened
   unsound-refused = by_number (open_number kind encoding width n b) _ unsound
 
   -- so there is no record to read it with
-  pub unsound-never-opened : (r : Reader) → opened kind encoding width n b ≡ Open r → ⊥
+  pub unsound-never-opened : (r : Reader) → opened kind encoding width n b ≡ Ok r → ⊥
   unsound-never-opened r h =
-      let e : Refused (open_number kind encoding width n b) ≡ Open r = sym unsound-refused ∙ h in
+      let e : Err (open_number kind encoding width n b) ≡ Ok r = sym unsound-refused ∙ h in
       let z : ◌≡◌ {A = ℕ} 0 1 = cc in
       omega arith
 
@@ -63,20 +62,20 @@ module _ (kind encoding width n : ℕ) (b : List ℕ) (unsound : open_number kin
 -- There is a reader exactly when opening's number is 0.
 pub opened-by-number :
     (kind encoding width n : ℕ) (b : List ℕ)
-    → ((r : Reader) × (opened kind encoding width n b ≡ Open r)) ↔ (open_number kind encoding width n b ≡ 0)
+    → ((r : Reader) × (opened kind encoding width n b ≡ Ok r)) ↔ (open_number kind encoding width n b ≡ 0)
 unfolding opened opened_by
 opened-by-number kind encoding width n b = (there (open_number kind encoding width n b) _, back (open_number kind encoding width n b) _)
   where
-    there : (e : ℕ) (s : Reader) → ((r : Reader) × (opened_by e s ≡ Open r)) → e ≡ 0
+    there : (e : ℕ) (s : Reader) → ((r : Reader) × (opened_by e s ≡ Ok r)) → e ≡ 0
     there zero s o = refl
     there (suc e) s o = let z : ◌≡◌ {A = ℕ} 0 1 = cc o.1 in absurd (omega arith)
 
-    back : (e : ℕ) (s : Reader) → e ≡ 0 → (r : Reader) × (opened_by e s ≡ Open r)
+    back : (e : ℕ) (s : Reader) → e ≡ 0 → (r : Reader) × (opened_by e s ≡ Ok r)
     back e s h = (s, ap (λ (x : ℕ). opened_by x s) h)
 
 -- A block is opened exactly when it is sound: when it consists of the parts that its encoding names, and these keep their rules.
 pub opened-exactly-when-sound :
-    (kind encoding width n : ℕ) (b : List ℕ) → ((r : Reader) × (opened kind encoding width n b ≡ Open r)) ↔ Sound kind encoding width n b
+    (kind encoding width n : ℕ) (b : List ℕ) → ((r : Reader) × (opened kind encoding width n b ≡ Ok r)) ↔ Sound kind encoding width n b
 opened-exactly-when-sound kind encoding width n b =
     let o = opened-by-number kind encoding width n b in
     (λ h. opens-sound kind encoding width n b (o.0 h), λ h. o.1 (sound-opens kind encoding width n b h))
@@ -248,7 +247,7 @@ module _ (b : List ℕ) where
       (ap (λ (s : Reader). play s b cs) o.1 ∙ answers-depend-on-the-block-alone cs ds h.1 (after r b d))
 
   -- the same from the opening on
-  pub opened-answers-depend-on-the-block-alone : (o : Opened) (cs ds : List Call) → SameCalls cs ds → play_opened o b cs ≡ play_opened o b ds
+  pub opened-answers-depend-on-the-block-alone : (o : Result Reader ℕ) (cs ds : List Call) → SameCalls cs ds → play_opened o b cs ≡ play_opened o b ds
   unfolding play_opened
-  opened-answers-depend-on-the-block-alone (Open r) cs ds h = answers-depend-on-the-block-alone cs ds h r
-  opened-answers-depend-on-the-block-alone (Refused e) cs ds h = refl
+  opened-answers-depend-on-the-block-alone (Ok r) cs ds h = answers-depend-on-the-block-alone cs ds h r
+  opened-answers-depend-on-the-block-alone (Err e) cs ds h = refl

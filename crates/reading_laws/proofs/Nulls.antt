@@ -10,6 +10,7 @@ use mathlib.Core.Path.{◌≡◌, refl, sym, ap, subst, ◌∙◌}
 use lib.Dec.{ltb, eqb}
 use lib.ListN.{length, take}
 use borrow.Author.Tests.{eqb-false}
+use Rattle.std.specs.Prelude.{Result, Ok}
 use Rattle.limits.specs.Refusals.{ROOM, NO_ROWS, TOO_FAR, DISAGREE}
 use Rattle.encode.specs.declared.Kind.{Kind}
 use Rattle.encode.specs.declared.Kind.TheVariants.{Fixed, Char, Blob}
@@ -30,8 +31,6 @@ use Rattle.format.specs.Blocks.{column_of}
 use Rattle.format.specs.Opening.{head_of, places_of, row_at, rows_of, open_number}
 use Rattle.anatomy.specs.Tests.{row_good}
 use Rattle.block.specs.declared.Reader.{Reader}
-use Rattle.block.specs.declared.Opened.{Opened}
-use Rattle.block.specs.declared.Opened.TheVariants.{Open}
 use Rattle.block.specs.Reading.{wrong, next_steps, moved, counted, nulls_in, reader_at, head_in, opened}
 use Rattle.block.specs.Reading.{Areas, Batch, is_bytes, short, filled_in, given_bytes, refused_batch, give, batch_of, up_to, whole, pass_then, read_in, asks_nothing, read}
 use Rattle.block.specs.Calls.{Call, reading, Answer, gave, refused, handed, column_in, read_answer, answer_to, after, play, play_opened}
@@ -216,7 +215,7 @@ module _ (k : Kind) (n : ℕ) (b : List ℕ) where
       (λ (q : e ≡ RunLength). subst (λ (f : Encoding). Each Present (rows_of k f n b)) (sym q) runs-present)
       h
 
-module _ (kind encoding width n : ℕ) (b : List ℕ) (r : Reader) (here : opened kind encoding width n b ≡ Open r) where
+module _ (kind encoding width n : ℕ) (b : List ℕ) (r : Reader) (here : opened kind encoding width n b ≡ Ok r) where
   begun : (open_number kind encoding width n b ≡ 0) × (reader_at kind encoding width n (length b) (head_in (column_of kind encoding width) b) ≡ r)
   unfolding opened
   begun = open_told (open_number kind encoding width n b) _ r here
@@ -239,5 +238,5 @@ module _ (kind encoding width n : ℕ) (b : List ℕ) (r : Reader) (here : opene
     unfolding play_opened
     no-nulls-in-0-and-2 k e bare c =
         nulls-so-far.0
-        ∙ ap (λ (xs : List Answer). nulls_in (handed_out xs)) (sym (ap (λ (o : Opened). play_opened o b cs) here) ∙ any-calls kind encoding width n b k e begun.0 c cs)
+        ∙ ap (λ (xs : List Answer). nulls_in (handed_out xs)) (sym (ap (λ (o : Result Reader ℕ). play_opened o b cs) here) ∙ any-calls kind encoding width n b k e begun.0 c cs)
         ∙ none-null (handed_out (expected k (rows_of k e n b) cs)) (each-handed Present k (rows_of k e n b) cs (rows-present k n b e bare))

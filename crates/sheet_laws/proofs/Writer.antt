@@ -14,8 +14,6 @@ use Rattle.format.specs.declared.Column.TheVariants.{Of}
 use Rattle.format.specs.Blocks.{column_of, stored_form}
 use Rattle.format.specs.Sizes.{accepted}
 use Rattle.block.specs.declared.Reader.{Reader}
-use Rattle.block.specs.declared.Opened.{Opened}
-use Rattle.block.specs.declared.Opened.TheVariants.{Open}
 use Rattle.block.specs.Reading.{opened}
 use Rattle.block.specs.Calls.{Call, play}
 use Rattle.block_laws.proofs.Blocks.{our-blocks-open, our-blocks-hold}

@@ -5,6 +5,7 @@ use mathlib.Core.Bool.{Bool, true, false, cond}
 use mathlib.Core.List.{List}
 use mathlib.Core.Path.{◌≡◌, refl}
 use lib.Dec.{eqb}
+use Rattle.std.specs.Prelude.{Ok, Err}
 use Rattle.limits.specs.Refusals.{COLUMN}
 use Rattle.encode.specs.declared.Kind.{Kind}
 use Rattle.format.specs.declared.Encoding.{Encoding}
@@ -13,7 +14,6 @@ use Rattle.format.specs.declared.Column.TheVariants.{Of, Unknown}
 use Rattle.format.specs.Blocks.{column_of}
 use Rattle.format.specs.Opening.{column_number, open_number}
 use Rattle.block.specs.declared.Reader.{Reader}
-use Rattle.block.specs.declared.Opened.TheVariants.{Open, Refused}
 use Rattle.block.specs.Reading.{opened_by, opened}
 use Rattle.descriptor.specs.declared.Descriptor.{Descriptor}
 use Rattle.descriptor.specs.Descriptor.{described_number, described_opened}
@@ -24,13 +24,13 @@ no-zero-bit : (t : Bool) (m : ℕ) → cond t m COLUMN ≡ 0 → m ≡ 0
 no-zero-bit true m z = z
 no-zero-bit false m z = absurd (omega arith)
 
-opened-so : (t : Bool) (m : ℕ) (r : Reader) → cond t m COLUMN ≡ 0 → cond t (opened_by m r) (Refused COLUMN) ≡ Open r
+opened-so : (t : Bool) (m : ℕ) (r : Reader) → cond t m COLUMN ≡ 0 → cond t (opened_by m r) (Err COLUMN) ≡ Ok r
 unfolding opened_by
 opened-so true zero r z = refl
 opened-so true (suc m) r z = absurd (omega arith)
 opened-so false m r z = absurd (omega arith)
 
-refused-so : (t : Bool) (m : ℕ) (r : Reader) → (cond t m COLUMN ≡ 0 → ⊥) → cond t (opened_by m r) (Refused COLUMN) ≡ Refused (cond t m COLUMN)
+refused-so : (t : Bool) (m : ℕ) (r : Reader) → (cond t m COLUMN ≡ 0 → ⊥) → cond t (opened_by m r) (Err COLUMN) ≡ Err (cond t m COLUMN)
 unfolding opened_by
 refused-so true zero r z = absurd (z refl)
 refused-so true (suc m) r z = refl
@@ -44,13 +44,13 @@ module _ (d : Descriptor) (b : List ℕ) where
   rules = open_number d.kind d.encoding d.width d.rows b
 
   -- a number that isn't 0 is the refusal of the opening
-  pub number-refuses : (described_number d b ≡ 0 → ⊥) → described_opened d b ≡ Refused (described_number d b)
+  pub number-refuses : (described_number d b ≡ 0 → ⊥) → described_opened d b ≡ Err (described_number d b)
   unfolding described_opened described_number opened
   number-refuses = refused-so (eqb d.zero 0) rules (fresh d b)
 
   module _ (z : described_number d b ≡ 0) where
     -- the fresh reader is the one that opening gives
-    pub fresh-opened : described_opened d b ≡ Open (fresh d b)
+    pub fresh-opened : described_opened d b ≡ Ok (fresh d b)
     unfolding described_opened described_number opened
     fresh-opened = opened-so (eqb d.zero 0) rules (fresh d b) z
 

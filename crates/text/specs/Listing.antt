@@ -1,14 +1,13 @@
 -- 01, "Listing program": the whole listing of an input. No contract can say what a program writes; the program prints the texts of `row_text` and
 -- these lines around them. Assumes nothing.
-use Rattle.std.specs.Prelude.{ℕ, suc, ◌-◌, cond, List, [], ◌∷◌, ◌++◌, ltb, take}
+use Rattle.std.specs.Prelude.{ℕ, suc, ◌-◌, cond, List, [], ◌∷◌, ◌++◌, ltb, take, Result, Ok, Err}
 use Rattle.encode.specs.declared.Kind.{Kind}
 use Rattle.plain.specs.Rows.{Row}
 use Rattle.format.specs.declared.Column.{Column}
 use Rattle.format.specs.declared.Column.TheVariants.{Of, Unknown}
 use Rattle.format.specs.Blocks.{column_of}
 use Rattle.format.specs.Opening.{rows_of}
-use Rattle.block.specs.declared.Opened.{Opened}
-use Rattle.block.specs.declared.Opened.TheVariants.{Open, Refused}
+use Rattle.block.specs.declared.Reader.{Reader}
 use Rattle.text.specs.Input.{input_opened, block_in}
 use Rattle.text.specs.Text.{decimal, row_text}
 
@@ -43,9 +42,9 @@ sound_listing Unknown n b = []
 sound_listing (Of k e) n b =
     line_of rows_word (decimal n) ++ row_lines k 0 (take 1000 (rows_of k e n b)) ++ more_line n ++ (end_word ++ (10 ∷ []))
 
-unfoldable pub listing_by : Opened → List ℕ → List ℕ
-listing_by (Open r) b = sound_listing (column_of r.kind r.encoding r.width) r.rows b
-listing_by (Refused e) b = line_of refused_word (decimal e)
+unfoldable pub listing_by : Result Reader ℕ → List ℕ → List ℕ
+listing_by (Ok r) b = sound_listing (column_of r.kind r.encoding r.width) r.rows b
+listing_by (Err e) b = line_of refused_word (decimal e)
 
 unfoldable pub listing_of : List ℕ → List ℕ
 listing_of s = listing_by (input_opened s) (block_in s)

@@ -9,7 +9,7 @@
 
 ghost use Rattle.std.specs.Prelude.{◌≡◌, length};
 
-use block::{Opened, Reader};
+use block::Reader;
 use script::{byte, first, past};
 
 // Four bytes as a number; two.
@@ -74,8 +74,8 @@ fn passed(reader: Reader, block: &[u8], rows: usize) -> Reader {
 fn reader_of(input: &[u8], rows: usize) -> Reader {
     let answer = text::open(input);
     match answer {
-        Opened::Open(reader) => passed(reader, text::block_of(input), rows),
-        Opened::Refused(_) => block::no_reader(),
+        Ok(reader) => passed(reader, text::block_of(input), rows),
+        Err(_) => block::no_reader(),
     }
 }
 

@@ -13,7 +13,8 @@
 
 ghost use Rattle.std.specs.Prelude.{◌≡◌, length};
 
-use block::{Opened, Reader};
+use block::Reader;
+use limits::refusal::Refusal;
 use parts_by::{parts, put};
 use script::{byte, first, number, past, say, show, show_byte, show_size};
 use show_reader::{give_into, show_reader};
@@ -91,16 +92,16 @@ fn set(s: &[u8], state: State) -> State {
     }
 }
 
-fn opened(answer: Opened) -> Reader {
+fn opened(answer: Result<Reader, Refusal>) -> Reader {
     say(b"open");
     match answer {
-        Opened::Open(r) => {
+        Ok(r) => {
             show(0);
             show_reader(r);
             r
         }
-        Opened::Refused(number) => {
-            show_byte(number);
+        Err(refusal) => {
+            show_byte(u8::from(refusal));
             block::no_reader()
         }
     }

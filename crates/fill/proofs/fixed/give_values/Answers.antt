@@ -1,7 +1,9 @@
 -- `fill::give_values` meets its contract: each return by what the look told and the room that was tested. Assumes nothing.
-use mathlib.Core.Path.{◌∙◌, sym}
+use mathlib.Core.Path.{refl}
 use mathlib.Core.List.{[]}
 use native.Mathlib.Omega.{arith}
+use Rattle.std.specs.Prelude.{Err}
+use Rattle.limits.specs.Refusals.{ROOM, DISAGREE}
 use lib.ListN.{length}
 use Rattle.part_rows.proofs.Places.{may_write}
 use Rattle.fill.specs.Areas.{areas}
@@ -13,7 +15,7 @@ use Rattle.fill.proofs.fixed.give_values.Goals as goal
 pub returns-in_default : goal.returns-in_default
 returns-in_default c =
     let a = c.args in
-    let all = fixed_told c.refused.result c.refused.ensures
+    let all = fixed_told (Err DISAGREE) refl
     (looked-stuck a.parts a.from a.block.now a.n (areas a.values.now a.flags.now [] [])
     c.in_default.ensures) in
     record { value = all.0; values_after = all.1.0; flags_after = all.1.1 }
@@ -25,7 +27,7 @@ returns-then-values-n c =
     Looked a.parts a.from a.block.now a.n c.in-Some.weighed.bytes c.in-Some.weighed.next = let a = c.args in
     looked-total a.parts a.from a.block.now a.n c.in-Some.ensures in
     let a = c.args in
-    let all = fixed_told c.refused-then-values-n.result c.refused-then-values-n.ensures
+    let all = fixed_told (Err ROOM) refl
     (values-short (looked).read (areas a.values.now a.flags.now [] []) (is-fixed _ _ c.requires.1) (omega arith)) in
     record { value = all.0; values_after = all.1.0; flags_after = all.1.1 }
 
@@ -36,7 +38,7 @@ returns-then-flags-n c =
     Looked a.parts a.from a.block.now a.n c.in-Some.weighed.bytes c.in-Some.weighed.next = let a = c.args in
     looked-total a.parts a.from a.block.now a.n c.in-Some.ensures in
     let a = c.args in
-    let all = fixed_told c.refused-then-flags-n.result c.refused-then-flags-n.ensures
+    let all = fixed_told (Err ROOM) refl
     (flags-short (looked).read (areas a.values.now a.flags.now [] []) (omega arith)) in
     record { value = all.0; values_after = all.1.0; flags_after = all.1.1 }
 

@@ -1,7 +1,9 @@
 -- `fill::give_weighed` meets its contract: each return by what the look told and the room that was tested. Assumes nothing.
-use mathlib.Core.Path.{◌∙◌, sym}
+use mathlib.Core.Path.{refl}
 use mathlib.Core.List.{[]}
 use native.Mathlib.Omega.{arith}
+use Rattle.std.specs.Prelude.{Err}
+use Rattle.limits.specs.Refusals.{ROOM, DISAGREE}
 use lib.ListN.{length}
 use Rattle.part_rows.proofs.Places.{may_write}
 use Rattle.fill.specs.Areas.{areas}
@@ -13,7 +15,7 @@ use Rattle.fill.proofs.texts.give_weighed.Goals as goal
 pub returns-in_default : goal.returns-in_default
 returns-in_default c =
     let a = c.args in
-    let all = text-told c.refused.result c.refused.ensures
+    let all = text-told (Err DISAGREE) refl
     (looked-stuck a.parts a.from a.block.now a.n (areas [] a.flags.now a.ends.now a.bytes.now)
     c.in_default.ensures) in
     record { value = all.0; flags_after = all.1.0; ends_after = all.1.1.0; bytes_after = all.1.1.1 }
@@ -25,7 +27,7 @@ returns-then-flags-n c =
     Looked a.parts a.from a.block.now a.n c.in-Some.weighed.bytes c.in-Some.weighed.next = let a = c.args in
     looked-total a.parts a.from a.block.now a.n c.in-Some.ensures in
     let a = c.args in
-    let all = text-told c.refused-then-flags-n.result c.refused-then-flags-n.ensures
+    let all = text-told (Err ROOM) refl
     (flags-short (looked).read (areas [] a.flags.now a.ends.now a.bytes.now) (omega arith)) in
     record { value = all.0; flags_after = all.1.0; ends_after = all.1.1.0; bytes_after = all.1.1.1 }
 
@@ -36,7 +38,7 @@ returns-then-ends-n c =
     Looked a.parts a.from a.block.now a.n c.in-Some.weighed.bytes c.in-Some.weighed.next = let a = c.args in
     looked-total a.parts a.from a.block.now a.n c.in-Some.ensures in
     let a = c.args in
-    let all = text-told c.refused-then-ends-n.result c.refused-then-ends-n.ensures
+    let all = text-told (Err ROOM) refl
     (ends-short (looked).read (areas [] a.flags.now a.ends.now a.bytes.now) c.requires.1 (omega arith)) in
     record { value = all.0; flags_after = all.1.0; ends_after = all.1.1.0; bytes_after = all.1.1.1 }
 
@@ -47,7 +49,7 @@ returns-then-bytes-total c =
     Looked a.parts a.from a.block.now a.n c.in-Some.weighed.bytes c.in-Some.weighed.next = let a = c.args in
     looked-total a.parts a.from a.block.now a.n c.in-Some.ensures in
     let a = c.args in
-    let all = text-told c.refused-then-bytes-total.result c.refused-then-bytes-total.ensures
+    let all = text-told (Err ROOM) refl
     (bytes-short (looked).read (areas [] a.flags.now a.ends.now a.bytes.now) c.requires.1 _ (looked).weight (omega arith)) in
     record { value = all.0; flags_after = all.1.0; ends_after = all.1.1.0; bytes_after = all.1.1.1 }
 
@@ -58,7 +60,7 @@ returns-then-total-gt-MOST_GIVEN c =
     Looked a.parts a.from a.block.now a.n c.in-Some.weighed.bytes c.in-Some.weighed.next = let a = c.args in
     looked-total a.parts a.from a.block.now a.n c.in-Some.ensures in
     let a = c.args in
-    let all = text-told c.refused-then-total-gt-MOST_GIVEN.result c.refused-then-total-gt-MOST_GIVEN.ensures
+    let all = text-told (Err ROOM) refl
     (total-high (looked).read (areas [] a.flags.now a.ends.now a.bytes.now) c.requires.1 _ (looked).weight (omega arith)) in
     record { value = all.0; flags_after = all.1.0; ends_after = all.1.1.0; bytes_after = all.1.1.1 }
 
