@@ -5,11 +5,10 @@ use mathlib.Core.List.{List, [], ◌∷◌}
 use mathlib.Core.Path.{◌≡◌, refl, sym, ap, ◌∙◌}
 use lib.Dec.{eqb}
 use borrow.Author.Tests.{eqb-true}
-use Rattle.std.specs.Prelude.{Result, Ok}
+use Rattle.std.specs.Prelude.{Result, Ok, Some}
 use Rattle.encode.specs.declared.Kind.{Kind}
 use Rattle.format.specs.declared.Encoding.{Encoding}
-use Rattle.format.specs.declared.Column.TheVariants.{Of}
-use Rattle.format.specs.Blocks.{column_of}
+use Rattle.format.specs.Blocks.{column_of, column}
 use Rattle.format.specs.Opening.{open_number, rows_of}
 use Rattle.block.specs.declared.Reader.{Reader}
 use Rattle.block.specs.Reading.{opened}
@@ -54,7 +53,7 @@ module _ (places : ℕ → Place) (j : ℕ) (b : List ℕ) where
   pub read-exactly :
       (kind encoding width n : ℕ) (memory : List ℕ) → bytes_at (places j) memory ≡ b
       → (readers : ℕ → Reader) → opened kind encoding width n (bytes_at (places j) memory) ≡ Ok (readers j)
-      → (k : Kind) (e : Encoding) → column_of kind encoding width ≡ Of k e
+      → (k : Kind) (e : Encoding) → column_of kind encoding width ≡ Some (column k e)
       → (steps : List Step) → Holding j (places j) b steps
       → answers_of j (told places readers steps) ≡ expected k (rows_of k e n b) (calls_on j steps)
   unfolding play_opened

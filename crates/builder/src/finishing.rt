@@ -10,7 +10,7 @@ ghost use Rattle.builder.specs.Asking.{with_counts, Ready};
 
 use crate::{Builder, Finished};
 use encode::Kind;
-use format::{Column, Encoding};
+use format::Encoding;
 use limits::refusal::Refusal;
 use needs::{Counted, Room};
 
@@ -94,8 +94,7 @@ impl Builder {
             ≡ (finished self (lent items.now ends.now flags.now counts.now keys.now lens.now)
             out.old).out }
     {
-        let column = format::column_of(self.kind, self.encoding, self.width);
-        let Column::Of { kind, encoding } = column else {
+        let Some(column) = format::column_of(self.kind, self.encoding, self.width) else {
             return Err(Refusal::Disagree);
         };
         let c = self.counted;
@@ -107,16 +106,16 @@ impl Builder {
             keys: keys.len(),
             lens: lens.len(),
         };
-        if needs::disagrees(c, kind, encoding, room) {
+        if needs::disagrees(c, column.kind, column.encoding, room) {
             return Err(Refusal::Disagree);
         }
-        let size = held_counts(c, encoding, counts);
-        let len = needs::block_bytes(with_counts(c, size), kind, encoding);
+        let size = held_counts(c, column.encoding, counts);
+        let len = needs::block_bytes(with_counts(c, size), column.kind, column.encoding);
         if out.len() < len {
             return Err(Refusal::Room);
         }
         write_block(
-            c, kind, encoding, size, items, ends, flags, counts, keys, out,
+            c, column.kind, column.encoding, size, items, ends, flags, counts, keys, out,
         );
         Ok(len)
     }

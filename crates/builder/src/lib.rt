@@ -9,7 +9,6 @@ ghost use Rattle.std.specs.Prelude.{◌≡◌};
 ghost use Rattle.limits.specs.Refusals.{by_number};
 ghost use Rattle.builder.specs.Building.{empty, created, counting};
 
-use format::Column;
 use limits::refusal::Refusal;
 use needs::Counted;
 
@@ -115,13 +114,8 @@ pub fn create_with_key_target(
 ) -> Result<Builder, Refusal>
     ensures { by_number result ≡ created kind encoding width target keytarget }
 {
-    let column = format::column_of(kind, encoding, width);
-    let Column::Of {
-        kind: _,
-        encoding: _,
-    } = column
-    else {
+    if format::column_of(kind, encoding, width).is_none() {
         return Err(Refusal::Column);
-    };
+    }
     Ok(Builder::new(kind, encoding, width, target, keytarget))
 }

@@ -3,7 +3,6 @@ ghost use Rattle.std.specs.Prelude.{◌≡◌};
 ghost use Rattle.builder.specs.Finishing.{estimated, estimated_by, asked, asked_by};
 
 use crate::{Asked, Builder, Estimated};
-use format::Column;
 use limits::refusal::Refusal;
 
 impl Builder {
@@ -11,14 +10,13 @@ impl Builder {
     fn size(self) -> Result<usize, Refusal>
         ensures { estimated_by self result ≡ estimated self }
     {
-        let column = format::column_of(self.kind, self.encoding, self.width);
-        let Column::Of { kind, encoding } = column else {
+        let Some(column) = format::column_of(self.kind, self.encoding, self.width) else {
             return Err(Refusal::Disagree);
         };
-        if needs::is_wrong(self.counted, kind, encoding) {
+        if needs::is_wrong(self.counted, column.kind, column.encoding) {
             return Err(Refusal::Disagree);
         }
-        Ok(sizes::size_of(self.counted, kind, encoding))
+        Ok(sizes::size_of(self.counted, column.kind, column.encoding))
     }
 
     // The estimated size.
@@ -43,15 +41,14 @@ impl Builder {
     fn is_full(self, present: bool, len: usize) -> Result<bool, Refusal>
         ensures { asked_by self result ≡ asked self present len }
     {
-        let column = format::column_of(self.kind, self.encoding, self.width);
-        let Column::Of { kind, encoding } = column else {
+        let Some(column) = format::column_of(self.kind, self.encoding, self.width) else {
             return Err(Refusal::Disagree);
         };
         let c = self.counted;
-        if needs::is_wrong(c, kind, encoding) {
+        if needs::is_wrong(c, column.kind, column.encoding) {
             return Err(Refusal::Disagree);
         }
-        Ok(sizes::is_full(c, self.target, self.keytarget, kind, encoding, present, len))
+        Ok(sizes::is_full(c, self.target, self.keytarget, column.kind, column.encoding, present, len))
     }
 
     // Whether to finish before a next row: whether that row is present, and the length of its bytes.

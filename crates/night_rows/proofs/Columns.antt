@@ -1,4 +1,5 @@
 -- What a block's number tells of its rows and of its verdict; which rows are due. Assumes nothing.
+use Rattle.std.specs.Prelude.{Some}
 use Prim.Native.Nat.{ℕ, ◌+◌, ◌-◌, ◌≤◌, ◌<◌}
 use native.Mathlib.Omega.{arith}
 use mathlib.Core.List.{List, [], ◌∷◌}
@@ -15,7 +16,6 @@ use Rattle.plain.specs.Plain.{places}
 use Rattle.plain.specs.Rules.{◌if◌}
 use Rattle.plain.proofs.Rules as rules
 use Rattle.format.specs.declared.Encoding.{Encoding}
-use Rattle.format.specs.declared.Column.TheVariants.{Of}
 use Rattle.format.specs.Opening.{most_rows, column_number}
 use Rattle.fill.specs.Areas.{Areas}
 use Rattle.block.proofs.RecordTests.{most-rows}
@@ -28,9 +28,10 @@ use Rattle.night_rows.specs.declared.Verdict.{Verdict}
 use Rattle.night_rows.specs.declared.Verdict.TheVariants.{Same, Refused}
 use Rattle.night_rows.specs.contracts.Verdict.{the_type}
 use Rattle.night_rows.specs.Night.{powers_among, rows_compared, verdict_of}
+use Rattle.format.specs.Blocks.{column}
 
 -- ---- a sound block has no more rows than any block
-few-in : (k : Kind) (e : Encoding) (n : ℕ) (b : List ℕ) → column_number (Of k e) n b ≡ 0 → n ≤ MOST_ROWS
+few-in : (k : Kind) (e : Encoding) (n : ℕ) (b : List ℕ) → column_number (Some (column k e)) n b ≡ 0 → n ≤ MOST_ROWS
 unfolding column_number
 few-in k e n b z =
     let short = rules.kept (LIMIT if ltb MOST_BYTES (length b)) _ z in

@@ -8,17 +8,14 @@ use lib.Dec.{ltb, eqb}
 use lib.IntN.{ℤ}
 use lib.ListN.{length, take, drop, length-drop, length-replicate}
 use borrow.Author.Tests.{eq-eqb, ne_eqb, ltb-false}
-use Rattle.std.specs.Prelude.{Result, Ok, Err}
+use Rattle.std.specs.Prelude.{Result, Ok, Err, Option, Some, None}
 use Rattle.limits.specs.Limits.{MOST_INPUT}
 use Rattle.limits.specs.Refusals.{COLUMN, LIMIT, CUT}
 use Rattle.encode.specs.declared.Kind.{Kind}
-use Rattle.encode.specs.declared.FoundKind.{FoundKind}
-use Rattle.encode.specs.declared.FoundKind.TheVariants.{Unknown}
 use Rattle.encode.specs.Kinds.{kind_of}
 use Rattle.format.specs.declared.Encoding.{Encoding}
 use Rattle.format.specs.declared.Column.{Column}
-use Rattle.format.specs.declared.Column.TheVariants.{Of, Unknown as NoColumn}
-use Rattle.format.specs.Blocks.{with_encoding, column_of}
+use Rattle.format.specs.Blocks.{with_encoding, column_of, column}
 use Rattle.block.specs.declared.Reader.{Reader}
 use Rattle.block.specs.declared.Given.{Given}
 use Rattle.block.specs.declared.Left.{Left}
@@ -91,20 +88,20 @@ module _ {n : ℕ} {r₀ : Reader} {b bytes₀ text₀ bytes text : List ℕ} {r
 
 -- ---- the record
 -- a record that contradicts nothing names a kind
-known-kind : (f : FoundKind) (encoding : ℕ) (k : Kind) (e : Encoding) → with_encoding f encoding ≡ Of k e → f ≡ Unknown → ⊥
+known-kind : (f : Option Kind) (encoding : ℕ) (k : Kind) (e : Encoding) → with_encoding f encoding ≡ Some (column k e) → f ≡ None → ⊥
 unfolding with_encoding
 known-kind f encoding k e q h =
-    let z : NoColumn ≡ Of k e = ap (λ (g : FoundKind). with_encoding g encoding) (sym h) ∙ q in
+    let z : None ≡ Some (column k e) = ap (λ (g : Option Kind). with_encoding g encoding) (sym h) ∙ q in
     let y : ◌≡◌ {A = ℕ} 0 1 = cc in
     omega arith
 
-pub kind-named : (r : Reader) → (remaining r).number ≡ 0 → kind_of r.kind r.width ≡ Unknown → ⊥
+pub kind-named : (r : Reader) → (remaining r).number ≡ 0 → kind_of r.kind r.width ≡ None → ⊥
 unfolding remaining remaining_in column_of
 kind-named r z h = go (column_of r.kind r.encoding r.width) refl z
   where
-    go : (c : Column) → column_of r.kind r.encoding r.width ≡ c → (remaining_in c r).number ≡ 0 → ⊥
-    go NoColumn q y = omega arith
-    go (Of k e) q y = known-kind (kind_of r.kind r.width) r.encoding k e q h
+    go : (c : Option Column) → column_of r.kind r.encoding r.width ≡ c → (remaining_in c r).number ≡ 0 → ⊥
+    go None q y = omega arith
+    go (Some c) q y = known-kind (kind_of r.kind r.width) r.encoding c.kind c.encoding q h
 
 module _ (r : Reader) (b : List ℕ) {l : Left} (q : l ≡ remaining r) where
   told : {t : Bool} → eqb l.number 0 ≡ t → cond t (rows_refused (min l.rows 1000) r b MOST_INPUT) l.number ≡ listed r b

@@ -8,7 +8,7 @@ use mathlib.Core.Logic.{◌↔◌}
 use mathlib.Core.Path.{◌≡◌, refl, sym, ap, subst, ◌∙◌}
 use lib.Dec.{ltb, eqb}
 use lib.ListN.{length, length-map}
-use Rattle.std.specs.Prelude.{Result, Ok, Err}
+use Rattle.std.specs.Prelude.{Result, Ok, Err, Option, Some, None}
 use Rattle.limits.specs.Refusals.{ROOM, NO_ROWS, TOO_FAR, DISAGREE}
 use Rattle.area.specs.Area.{over}
 use Rattle.encode.specs.declared.Primitive.{Primitive}
@@ -22,7 +22,6 @@ use Rattle.rle.specs.declared.Spot.{Spot}
 use Rattle.rle.specs.Stepping.{Steps, stuck, rows}
 use Rattle.format.specs.declared.Encoding.{Encoding}
 use Rattle.format.specs.declared.Column.{Column}
-use Rattle.format.specs.declared.Column.TheVariants.{Of, Unknown}
 use Rattle.format.specs.Opening.{open_number, row_at}
 use Rattle.anatomy.specs.Tests.{row_good}
 use Rattle.block.specs.declared.Reader.{Reader}
@@ -34,6 +33,7 @@ use Rattle.soundness_laws.specs.Sound.{Sound}
 use Rattle.soundness_laws.proofs.Opens.{sound-opens, opens-sound}
 use Rattle.reading_laws.specs.Room.{SameRoom, SameBatch, SameCall, SameCalls}
 use Rattle.reading_laws.proofs.HandedRows.{read_back}
+use Rattle.format.specs.Blocks.{column}
 
 -- ---- an unsound block is never opened
 by_number : (e : ℕ) (r : Reader) → (e ≡ 0 → ⊥) → opened_by e r ≡ Err e
@@ -81,14 +81,14 @@ opened-exactly-when-sound kind encoding width n b =
     (λ h. opens-sound kind encoding width n b (o.0 h), λ h. o.1 (sound-opens kind encoding width n b h))
 
 -- ---- answers depend on the block alone
-none-handed : (c : Column) (a : Areas) → handed c 0 a ≡ []
+none-handed : (c : Option Column) (a : Areas) → handed c 0 a ≡ []
 unfolding handed places
-none-handed Unknown a = refl
-none-handed (Of k e) a = refl
+none-handed None a = refl
+none-handed (Some c) a = refl
 
 module _ (r : Reader) (b : List ℕ) (a a' : Areas) (room : SameRoom a a') where
   -- a refusal writes nothing
-  same-refusal : (c : Column) (e : ℕ) → SameBatch c a a' (refused_batch e r a) (refused_batch e r a')
+  same-refusal : (c : Option Column) (e : ℕ) → SameBatch c a a' (refused_batch e r a) (refused_batch e r a')
   unfolding over
   same-refusal c e =
       record {
@@ -135,7 +135,7 @@ module _ (r : Reader) (b : List ℕ) (a a' : Areas) (room : SameRoom a a') where
       }
 
   same-texts : (k : Kind) (e : Encoding) (rs : List Row) (t : Spot) → is_bytes k ≡ true
-      → SameBatch (Of k e) a a' (record { answer = done k rs t; areas = filled_in k rs a }) (record { answer = done k rs t; areas = filled_in k rs a' })
+      → SameBatch (Some (column k e)) a a' (record { answer = done k rs t; areas = filled_in k rs a }) (record { answer = done k rs t; areas = filled_in k rs a' })
   unfolding filled_in given_bytes over
   same-texts k e rs t h =
       record {
@@ -154,36 +154,36 @@ module _ (r : Reader) (b : List ℕ) (a a' : Areas) (room : SameRoom a a') where
       }
 
   same-done : (k : Kind) (e : Encoding) (rs : List Row) (t : Spot)
-      → SameBatch (Of k e) a a' (record { answer = done k rs t; areas = filled_in k rs a }) (record { answer = done k rs t; areas = filled_in k rs a' })
+      → SameBatch (Some (column k e)) a a' (record { answer = done k rs t; areas = filled_in k rs a }) (record { answer = done k rs t; areas = filled_in k rs a' })
   same-done (Fixed p) e rs t = same-values p e rs t
   same-done (Char w) e rs t = same-texts (Char w) e rs t (unfold is_bytes in refl)
   same-done (Blob text) e rs t = same-texts (Blob text) e rs t (unfold is_bytes in refl)
 
-  either : (c : Column) (t : Bool) (x y x' y' : Batch) → SameBatch c a a' x x' → SameBatch c a a' y y' → SameBatch c a a' (cond t x y) (cond t x' y')
+  either : (c : Option Column) (t : Bool) (x y x' y' : Batch) → SameBatch c a a' x x' → SameBatch c a a' y y' → SameBatch c a a' (cond t x y) (cond t x' y')
   either c true x y x' y' h i = h
   either c false x y x' y' h i = i
 
-  same-give : (k : Kind) (e : Encoding) (rs : List Row) (t : Spot) → SameBatch (Of k e) a a' (give k r rs t a) (give k r rs t a')
+  same-give : (k : Kind) (e : Encoding) (rs : List Row) (t : Spot) → SameBatch (Some (column k e)) a a' (give k r rs t a) (give k r rs t a')
   unfolding give
   same-give k e rs t =
       rw (same-short k rs)
-      (either (Of k e) (short k rs a') (refused_batch ROOM r a) _ (refused_batch ROOM r a') _ (same-refusal (Of k e) ROOM)
+      (either (Some (column k e)) (short k rs a') (refused_batch ROOM r a) _ (refused_batch ROOM r a') _ (same-refusal (Some (column k e)) ROOM)
       (same-done k e rs t))
 
-  same_rows : (k : Kind) (e : Encoding) (w : Steps) → SameBatch (Of k e) a a' (batch_of k e r b a w) (batch_of k e r b a' w)
+  same_rows : (k : Kind) (e : Encoding) (w : Steps) → SameBatch (Some (column k e)) a a' (batch_of k e r b a w) (batch_of k e r b a' w)
   unfolding batch_of
-  same_rows k e stuck = same-refusal (Of k e) DISAGREE
+  same_rows k e stuck = same-refusal (Some (column k e)) DISAGREE
   same_rows k e (rows is t) =
-      either (Of k e) (all_of (row_good k e r.rows r.head b) is) _ (refused_batch DISAGREE r a) _ (refused_batch DISAGREE r a')
-      (same-give k e (map (row_at k e r.rows r.head b) is) t) (same-refusal (Of k e) DISAGREE)
+      either (Some (column k e)) (all_of (row_good k e r.rows r.head b) is) _ (refused_batch DISAGREE r a) _ (refused_batch DISAGREE r a')
+      (same-give k e (map (row_at k e r.rows r.head b) is) t) (same-refusal (Some (column k e)) DISAGREE)
 
-  same-up-to : (k : Kind) (e : Encoding) (size : ℕ) → SameBatch (Of k e) a a' (up_to k e r b size a) (up_to k e r b size a')
+  same-up-to : (k : Kind) (e : Encoding) (size : ℕ) → SameBatch (Some (column k e)) a a' (up_to k e r b size a) (up_to k e r b size a')
   unfolding up_to
   same-up-to k e size = same_rows k e (next_steps e r b (min size (r.rows - r.place)))
 
 module _ (r : Reader) (b : List ℕ) (a a' : Areas) (room : SameRoom a a') (skip size : ℕ) where
   -- whole, or a refusal, which writes nothing
-  same_whole : (c : Column) (x x' : Batch) → SameBatch c a a' x x' → SameBatch c a a' (whole r a x) (whole r a' x')
+  same_whole : (c : Option Column) (x x' : Batch) → SameBatch c a a' x x' → SameBatch c a a' (whole r a x) (whole r a' x')
   unfolding whole
   same_whole c x x' s =
       let m = x.answer.number in
@@ -191,20 +191,20 @@ module _ (r : Reader) (b : List ℕ) (a a' : Areas) (room : SameRoom a a') (skip
       (ap (λ (g : Given). g.number) s.answer)
       (either r b a a' room c (eqb m 0) x (refused_batch m r a) x' (refused_batch m r a') s (same-refusal r b a a' room c m))
 
-  same-passed : (k : Kind) (e : Encoding) (w : Steps) → SameBatch (Of k e) a a' (pass_then k e r b skip size a w) (pass_then k e r b skip size a' w)
+  same-passed : (k : Kind) (e : Encoding) (w : Steps) → SameBatch (Some (column k e)) a a' (pass_then k e r b skip size a w) (pass_then k e r b skip size a' w)
   unfolding pass_then
-  same-passed k e stuck = same-refusal r b a a' room (Of k e) DISAGREE
+  same-passed k e stuck = same-refusal r b a a' room (Some (column k e)) DISAGREE
   same-passed k e (rows is t) =
-      same_whole (Of k e) (up_to k e (moved r skip t) b size a) (up_to k e (moved r skip t) b size a') (same-up-to (moved r skip t) b a a' room k e size)
+      same_whole (Some (column k e)) (up_to k e (moved r skip t) b size a) (up_to k e (moved r skip t) b size a') (same-up-to (moved r skip t) b a a' room k e size)
 
-  same-column : (c : Column) → SameBatch c a a' (read_in c r b skip size a) (read_in c r b skip size a')
+  same-column : (c : Option Column) → SameBatch c a a' (read_in c r b skip size a) (read_in c r b skip size a')
   unfolding read_in
-  same-column Unknown = same-refusal r b a a' room Unknown DISAGREE
-  same-column (Of k e) =
-      either r b a a' room (Of k e) (not (eqb (length b) r.len) || wrong k e r) (refused_batch DISAGREE r a) _ (refused_batch DISAGREE r a') _
-      (same-refusal r b a a' room (Of k e) DISAGREE)
-      (either r b a a' room (Of k e) (ltb (r.rows - r.place) skip) (refused_batch TOO_FAR r a) _ (refused_batch TOO_FAR r a') _
-      (same-refusal r b a a' room (Of k e) TOO_FAR) (same-passed k e (next_steps e r b skip)))
+  same-column None = same-refusal r b a a' room None DISAGREE
+  same-column (Some c) =
+      either r b a a' room (Some (column c.kind c.encoding)) (not (eqb (length b) r.len) || wrong c.kind c.encoding r) (refused_batch DISAGREE r a) _ (refused_batch DISAGREE r a') _
+      (same-refusal r b a a' room (Some (column c.kind c.encoding)) DISAGREE)
+      (either r b a a' room (Some (column c.kind c.encoding)) (ltb (r.rows - r.place) skip) (refused_batch TOO_FAR r a) _ (refused_batch TOO_FAR r a') _
+      (same-refusal r b a a' room (Some (column c.kind c.encoding)) TOO_FAR) (same-passed c.kind c.encoding (next_steps c.encoding r b skip)))
 
   -- For every record and every block: number, counts, next record and all that is written are the same, whatever the lent areas held before.
   pub read-depends-on-the-block-alone : SameBatch (column_in r) a a' (read r b skip size a) (read r b skip size a')

@@ -1,5 +1,5 @@
 -- 01, "Block samples" A to J: one list, and what it means that the definitions give a sample. Assumes nothing.
-use Rattle.std.specs.Prelude.{ℕ, ◌≡◌, List, [], ◌∷◌, pos, negsuc, length, replicate}
+use Rattle.std.specs.Prelude.{ℕ, ◌≡◌, List, [], ◌∷◌, pos, negsuc, length, replicate, Some}
 use Rattle.varint.specs.declared.Count.TheVariants.{Number, Bad}
 use Rattle.varint.specs.Varint.{count_of, spelling}
 use Rattle.encode.specs.declared.Primitive.TheVariants.{I16, I32, Date, Interval}
@@ -9,8 +9,7 @@ use Rattle.encode.specs.declared.Kind.TheVariants.{Fixed, Char}
 use Rattle.plain.specs.Rows.{Row, null, int, bytes, interval}
 use Rattle.format.specs.declared.Encoding.{Encoding}
 use Rattle.format.specs.declared.Encoding.TheVariants.{Plain, Nullable, RunLength, RunLengthNullable, Dictionary}
-use Rattle.format.specs.declared.Column.TheVariants.{Of}
-use Rattle.format.specs.Blocks.{column_of, block_of, stored_form}
+use Rattle.format.specs.Blocks.{column_of, block_of, stored_form, column}
 use Rattle.format.specs.Opening.{open_number, rows_of}
 use Rattle.format.specs.Sizes.{estimate_of}
 use Rattle.block.specs.Reading.{Areas, opened}
@@ -53,7 +52,7 @@ pub data Sample : Type 0 where
 -- the definitions give it
 abbrev pub Gives : Sample → Type 0
 Gives (builds p rows b) =
-    (column_of p.kind_number p.encoding_number p.width ≡ Of p.kind p.encoding)
+    (column_of p.kind_number p.encoding_number p.width ≡ Some (column p.kind p.encoding))
     × (block_of p.kind p.encoding rows ≡ b)
     × (open_number p.kind_number p.encoding_number p.width (length rows) b ≡ 0)
     × (rows_of p.kind p.encoding (length rows) b ≡ stored_form p.kind p.encoding rows)

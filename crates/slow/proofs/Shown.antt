@@ -8,7 +8,7 @@ use borrow.Author.Tests.{ltb-false, le-leb, lt-leb}
 use lib.Dec.{ltb, eqb}
 use lib.ListN.{length, drop, get_or, length-drop}
 use lib.Seq.{length-take-le}
-use Rattle.std.specs.Prelude.{Result, Err}
+use Rattle.std.specs.Prelude.{Result, Err, Option, Some, None}
 use Rattle.limits.specs.Limits.{MOST_BYTES}
 use Rattle.limits.specs.Refusals.{COLUMN, LIMIT, TOO_FAR, refusal_number}
 use Rattle.limits.specs.declared.refusal.Refusal.{Refusal}
@@ -19,8 +19,7 @@ use Rattle.plain.proofs.Rules.{kept, whole}
 use Rattle.dict.specs.Dictionary.{entry_row}
 use Rattle.format.specs.declared.Encoding.{Encoding}
 use Rattle.format.specs.declared.Column.{Column}
-use Rattle.format.specs.declared.Column.TheVariants.{Of, Unknown}
-use Rattle.format.specs.Blocks.{column_of}
+use Rattle.format.specs.Blocks.{column_of, column}
 use Rattle.format.specs.Opening.{most_rows, rules_of, column_number, open_number, rows_of}
 use Rattle.fill.specs.Areas.{Areas}
 use Rattle.descriptor.specs.declared.Descriptor.{Descriptor}
@@ -39,7 +38,7 @@ gives_as x {after} e g = subst (λ (s : Shown). Gives x after s) (sym e) g
 pub refused_as : {a : Areas} {due : Shown} (x : Result ℕ Refusal) (e : Refusal) → due ≡ refused_row (refusal_number e) a → x ≡ Err e → Gives x a due
 refused_as x e q h = gives_as x q (ap answer_of h, refl)
 
-shown-refused : (e : ℕ) (c : Column) (n : ℕ) (b : List ℕ) (r : ℕ) (a : Areas) → (e ≡ 0 → ⊥) → shown_by e c n b r a ≡ refused_row e a
+shown-refused : (e : ℕ) (c : Option Column) (n : ℕ) (b : List ℕ) (r : ℕ) (a : Areas) → (e ≡ 0 → ⊥) → shown_by e c n b r a ≡ refused_row e a
 unfolding shown_by
 shown-refused zero c n b r a h = absurd (h refl)
 shown-refused (suc e) c n b r a h = refl
@@ -57,35 +56,35 @@ module _ (d : Descriptor) (b : List ℕ) where
   module _ (z : 0 ≡ described_number d b) where
     -- ---- a block that is opened: the column's row is shown
     module _ (r : ℕ) (a : Areas) where
-      shown_of_lem : (c : Column) → named ≡ c → row_shown d b r a ≡ shown_of c d.rows b r a
+      shown_of_lem : (c : Option Column) → named ≡ c → row_shown d b r a ≡ shown_of c d.rows b r a
       unfolding shown_by
-      shown_of_lem c e = ap (λ (m : ℕ). shown_by m named d.rows b r a) (sym z) ∙ ap (λ (j : Column). shown_of j d.rows b r a) e
+      shown_of_lem c e = ap (λ (m : ℕ). shown_by m named d.rows b r a) (sym z) ∙ ap (λ (j : Option Column). shown_of j d.rows b r a) e
 
-      pub unknown-shown : named ≡ Unknown → row_shown d b r a ≡ refused_row COLUMN a
+      pub unknown-shown : named ≡ None → row_shown d b r a ≡ refused_row COLUMN a
       unfolding shown_of
-      unknown-shown e = shown_of_lem Unknown e
+      unknown-shown e = shown_of_lem None e
 
-      module _ {k : Kind} {e : Encoding} (c : named ≡ Of k e) where
+      module _ {k : Kind} {e : Encoding} (c : named ≡ Some (column k e)) where
         pub far-shown : d.rows ≤ r → row_shown d b r a ≡ refused_row TOO_FAR a
         unfolding shown_of
-        far-shown h = shown_of_lem (Of k e) c ∙ simp (le-leb d.rows r h)
+        far-shown h = shown_of_lem (Some (column k e)) c ∙ simp (le-leb d.rows r h)
 
         near-shown : r < d.rows → row_shown d b r a ≡ shown_in k (get_or (rows_of k e d.rows b) r null) a
         unfolding shown_of
-        near-shown h = shown_of_lem (Of k e) c ∙ simp (lt-leb d.rows r h)
+        near-shown h = shown_of_lem (Some (column k e)) c ∙ simp (lt-leb d.rows r h)
 
         pub place-shown :
             {p : Place} → Shows k e d.rows b r p → r < d.rows → row_shown d b r a ≡ shown_in k (entry_row k p.items (items_at p b) (slot_of p.item)) a
         place-shown s h = near-shown h ∙ ap (λ (row : Row). shown_in k row a) s.shown
 
     -- ---- what opening's 0 says of the block
-    module _ {k : Kind} {e : Encoding} (c : named ≡ Of k e) where
-      column-sound : column_number (Of k e) d.rows b ≡ 0
+    module _ {k : Kind} {e : Encoding} (c : named ≡ Some (column k e)) where
+      column-sound : column_number (Some (column k e)) d.rows b ≡ 0
       unfolding described_number open_number
       column-sound = go (eqb d.zero 0) (sym z)
         where
-          go : (t : Bool) → cond t (column_number named d.rows b) COLUMN ≡ 0 → column_number (Of k e) d.rows b ≡ 0
-          go true h = ap (λ (j : Column). column_number j d.rows b) (sym c) ∙ h
+          go : (t : Bool) → cond t (column_number named d.rows b) COLUMN ≡ 0 → column_number (Some (column k e)) d.rows b ≡ 0
+          go true h = ap (λ (j : Option Column). column_number j d.rows b) (sym c) ∙ h
           go false h = absurd (omega arith)
 
       pub rules-kept : (length b ≤ MOST_BYTES) × (d.rows ≤ most_rows e) × (rules_of k e d.rows b ≡ 0)

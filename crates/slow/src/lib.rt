@@ -7,7 +7,6 @@ ghost use Rattle.fill.specs.Areas.{areas};
 ghost use Rattle.slow_answer.specs.Slow.{answer_of, row_shown};
 
 use descriptor::Descriptor;
-use format::Column;
 use limits::refusal::Refusal;
 use slow_answer::RowGiven;
 
@@ -43,16 +42,15 @@ fn given(
         ≡ (row_shown d block.now r (areas values.old flags.old ends.old bytes.old)).areas }
 {
     slow_rules::open_number(d, block)?;
-    let column = slow_rules::column_of(d);
-    let Column::Of { kind, encoding } = column else {
+    let Some(column) = slow_rules::column_of(d) else {
         return Err(Refusal::Column);
     };
     if d.rows <= r {
         return Err(Refusal::TooFar);
     }
-    let place = slow_places::place_of(encoding, d.rows, block, r);
+    let place = slow_places::place_of(column.encoding, d.rows, block, r);
     slow_giving::give(
-        kind,
+        column.kind,
         &block[place.from..place.to],
         place.items,
         place.item,

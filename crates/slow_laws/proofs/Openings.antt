@@ -5,13 +5,12 @@ use mathlib.Core.Bool.{Bool, true, false, cond}
 use mathlib.Core.List.{List}
 use mathlib.Core.Path.{◌≡◌, refl}
 use lib.Dec.{eqb}
-use Rattle.std.specs.Prelude.{Ok, Err}
+use Rattle.std.specs.Prelude.{Ok, Err, Option, Some, None}
 use Rattle.limits.specs.Refusals.{COLUMN}
 use Rattle.encode.specs.declared.Kind.{Kind}
 use Rattle.format.specs.declared.Encoding.{Encoding}
 use Rattle.format.specs.declared.Column.{Column}
-use Rattle.format.specs.declared.Column.TheVariants.{Of, Unknown}
-use Rattle.format.specs.Blocks.{column_of}
+use Rattle.format.specs.Blocks.{column_of, column}
 use Rattle.format.specs.Opening.{column_number, open_number}
 use Rattle.block.specs.declared.Reader.{Reader}
 use Rattle.block.specs.Reading.{opened_by, opened}
@@ -58,13 +57,13 @@ module _ (d : Descriptor) (b : List ℕ) where
     pub record Kept : Type 0 where
       pub kind : Kind
       pub encoding : Encoding
-      pub column : named ≡ Of kind encoding
-      pub sound : column_number (Of kind encoding) d.rows b ≡ 0
+      pub column : named ≡ Some (column kind encoding)
+      pub sound : column_number (Some (column kind encoding)) d.rows b ≡ 0
 
     pub kept : Kept
     unfolding described_number open_number column_number
     kept = go named refl (no-zero-bit (eqb d.zero 0) rules z)
       where
-        go : (c : Column) → named ≡ c → column_number c d.rows b ≡ 0 → Kept
-        go Unknown q s = absurd (omega (arith, s))
-        go (Of k e) q s = record { kind = k; encoding = e; column = q; sound = s }
+        go : (c : Option Column) → named ≡ c → column_number c d.rows b ≡ 0 → Kept
+        go None q s = absurd (omega (arith, s))
+        go (Some c) q s = record { kind = c.kind; encoding = c.encoding; column = q; sound = s }

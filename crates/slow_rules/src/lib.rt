@@ -5,20 +5,19 @@ ghost use Rattle.std.specs.Prelude.{◌≡◌, not, ◌*◌, ◌≤◌, eqb, len
 ghost use Rattle.limits.specs.Limits.{MOST_ITEMS, MOST_BYTES};
 ghost use Rattle.limits.specs.Refusals.{SUM, number_in};
 ghost use Rattle.encode.specs.Kinds.{kind_of, numbered as numbered_kind};
-ghost use Rattle.encode.specs.declared.FoundKind.TheVariants.{Known};
 ghost use Rattle.plain.specs.Rules.{◌if◌};
 ghost use Rattle.plain.specs.Plain.{places};
 ghost use Rattle.nullable.specs.Nullable.{nullable_number};
 ghost use Rattle.rle.specs.RunLength.{run_length_number};
 ghost use Rattle.dict.specs.Dictionary.{known, keys_number, dictionary_number};
-ghost use Rattle.format.specs.Blocks.{column_of, with_encoding};
+ghost use Rattle.format.specs.Blocks.{column_of, encoding_of};
 ghost use Rattle.format.specs.Opening.{most_rows, rules_of, column_number};
 ghost use Rattle.format.specs.Found.{inner_number};
 ghost use Rattle.descriptor.specs.Descriptor.{described_number};
 ghost use Rattle.slow_rules.specs.KeyBlock.{KeyBlock};
 
 use descriptor::Descriptor;
-use encode::{FoundKind, Kind, Primitive};
+use encode::{Kind, Primitive};
 use format::{Column, Encoding};
 use limits::refusal::Refusal;
 
@@ -146,79 +145,62 @@ fn dictionary_number(kind: Kind, rows: usize, s: &[u8]) -> Result<(), Refusal>
 // ---- a column
 
 // The kinds by number; the width is 0 for every kind but char.
-fn numbered(kind: usize) -> FoundKind
+fn numbered(kind: usize) -> Option<Kind>
     ensures { result ≡ numbered_kind kind }
 {
     match kind {
-        0 => FoundKind::Known(Kind::Fixed(Primitive::Bool)),
-        1 => FoundKind::Known(Kind::Fixed(Primitive::I16)),
-        2 => FoundKind::Known(Kind::Fixed(Primitive::I32)),
-        3 => FoundKind::Known(Kind::Fixed(Primitive::I64)),
-        4 => FoundKind::Known(Kind::Fixed(Primitive::Date)),
-        5 => FoundKind::Known(Kind::Fixed(Primitive::Timestamp)),
-        6 => FoundKind::Known(Kind::Fixed(Primitive::TimestampTz)),
-        7 => FoundKind::Known(Kind::Fixed(Primitive::Interval)),
-        9 => FoundKind::Known(Kind::Blob(false)),
-        10 => FoundKind::Known(Kind::Blob(true)),
-        11 => FoundKind::Known(Kind::Fixed(Primitive::F64)),
-        _ => FoundKind::Unknown,
+        0 => Some(Kind::Fixed(Primitive::Bool)),
+        1 => Some(Kind::Fixed(Primitive::I16)),
+        2 => Some(Kind::Fixed(Primitive::I32)),
+        3 => Some(Kind::Fixed(Primitive::I64)),
+        4 => Some(Kind::Fixed(Primitive::Date)),
+        5 => Some(Kind::Fixed(Primitive::Timestamp)),
+        6 => Some(Kind::Fixed(Primitive::TimestampTz)),
+        7 => Some(Kind::Fixed(Primitive::Interval)),
+        9 => Some(Kind::Blob(false)),
+        10 => Some(Kind::Blob(true)),
+        11 => Some(Kind::Fixed(Primitive::F64)),
+        _ => None,
     }
 }
 
-fn kind_of(kind: usize, width: usize) -> FoundKind
+fn kind_of(kind: usize, width: usize) -> Option<Kind>
     ensures { result ≡ kind_of kind width }
 {
     if kind == 8 {
         if width == 0 {
-            return FoundKind::Unknown;
+            return None;
         }
         if limits::MOST_WIDTH < width {
-            return FoundKind::Unknown;
+            return None;
         }
-        return FoundKind::Known(Kind::Char(width as u8));
+        return Some(Kind::Char(width as u8));
     }
     if width == 0 {
         return numbered(kind);
     }
-    FoundKind::Unknown
+    None
 }
 
-fn encoding_of(k: Kind, encoding: usize) -> Column
-    ensures { result ≡ with_encoding (Known k) encoding }
+fn encoding_of(number: usize) -> Option<Encoding>
+    ensures { result ≡ encoding_of number }
 {
-    match encoding {
-        0 => Column::Of {
-            kind: k,
-            encoding: Encoding::Plain,
-        },
-        1 => Column::Of {
-            kind: k,
-            encoding: Encoding::Nullable,
-        },
-        2 => Column::Of {
-            kind: k,
-            encoding: Encoding::RunLength,
-        },
-        3 => Column::Of {
-            kind: k,
-            encoding: Encoding::RunLengthNullable,
-        },
-        4 => Column::Of {
-            kind: k,
-            encoding: Encoding::Dictionary,
-        },
-        _ => Column::Unknown,
+    match number {
+        0 => Some(Encoding::Plain),
+        1 => Some(Encoding::Nullable),
+        2 => Some(Encoding::RunLength),
+        3 => Some(Encoding::RunLengthNullable),
+        4 => Some(Encoding::Dictionary),
+        _ => None,
     }
 }
 
-pub fn column_of(d: Descriptor) -> Column
+pub fn column_of(d: Descriptor) -> Option<Column>
     ensures { result ≡ column_of d.kind d.encoding d.width }
 {
-    let found = kind_of(d.kind, d.width);
-    match found {
-        FoundKind::Known(k) => encoding_of(k, d.encoding),
-        FoundKind::Unknown => Column::Unknown,
-    }
+    let kind = kind_of(d.kind, d.width)?;
+    let encoding = encoding_of(d.encoding)?;
+    Some(Column { kind, encoding })
 }
 
 fn most_rows(e: Encoding) -> usize
@@ -244,19 +226,19 @@ fn rules_number(kind: Kind, e: Encoding, rows: usize, s: &[u8]) -> Result<(), Re
     }
 }
 
-fn column_number(c: Column, rows: usize, s: &[u8]) -> Result<(), Refusal>
+fn column_number(c: Option<Column>, rows: usize, s: &[u8]) -> Result<(), Refusal>
     ensures { number_in result ≡ column_number c rows s.now }
 {
-    let Column::Of { kind, encoding } = c else {
+    let Some(column) = c else {
         return Err(Refusal::Column);
     };
     if limits::MOST_BYTES < s.len() {
         return Err(Refusal::Limit);
     }
-    if most_rows(encoding) < rows {
+    if most_rows(column.encoding) < rows {
         return Err(Refusal::Limit);
     }
-    rules_number(kind, encoding, rows, s)
+    rules_number(column.kind, column.encoding, rows, s)
 }
 
 // The first rule that a block breaks, if it breaks one.

@@ -1,6 +1,6 @@
 -- 01, "Layouts" and "Sound blocks": what a sound block is, by the parts that it consists of and what holds of them, for every kind and encoding. There
 -- are no refusal numbers here and no order of testing. Assumes nothing.
-use Rattle.std.specs.Prelude.{ℕ, ◌+◌, ◌*◌, ◌<◌, ◌≤◌, true, false, ◌≡◌, ◌⊎◌, List, [], ◌∷◌, ◌++◌, map, ℤ, length}
+use Rattle.std.specs.Prelude.{ℕ, ◌+◌, ◌*◌, ◌<◌, ◌≤◌, true, false, ◌≡◌, ◌⊎◌, List, [], ◌∷◌, ◌++◌, map, ℤ, length, Some}
 use Rattle.limits.specs.Limits.{MOST_ITEMS, MOST_ENTRIES, MOST_BYTES}
 use Rattle.encode.specs.Bytes.{Order, low_first, high-first, number_of}
 use Rattle.encode.specs.Kinds.{width_of, string}
@@ -17,8 +17,7 @@ use Rattle.nullable.specs.Nullable.{bitmap_length}
 use Rattle.dict.specs.Dictionary.{i32, null_key, entry_key}
 use Rattle.format.specs.declared.Encoding.{Encoding}
 use Rattle.format.specs.declared.Encoding.TheVariants.{Plain, Nullable, RunLength, RunLengthNullable, Dictionary}
-use Rattle.format.specs.declared.Column.TheVariants.{Of}
-use Rattle.format.specs.Blocks.{column_of}
+use Rattle.format.specs.Blocks.{column_of, column}
 use Rattle.format.specs.Opening.{most_rows}
 
 -- ---- numbers in a block
@@ -142,7 +141,7 @@ Parts k Dictionary n b = KeysAndEntries k n b
 pub record Sound (kind encoding width n : ℕ) (b : List ℕ) : Type 0 where
   pub of_kind : Kind
   pub in_encoding : Encoding
-  pub pair : column_of kind encoding width ≡ Of of_kind in_encoding
+  pub pair : column_of kind encoding width ≡ Some (column of_kind in_encoding)
   pub size : length b ≤ MOST_BYTES
   pub rows : n ≤ most_rows in_encoding
   pub parts : Parts of_kind in_encoding n b

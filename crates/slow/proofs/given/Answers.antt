@@ -19,7 +19,7 @@ returns-in_default c =
     let a = c.args in
     let all = refused_as _ Refusal.Column
     (unknown-shown a.d a.block.now c.in_ok-open_number.ensures a.r (areas a.values.now a.flags.now a.ends.now a.bytes.now)
-    (sym c.column_of-column.ensures ∙ c.in_default.is)) refl in
+    (sym c.column_of.ensures ∙ c.in_default.is)) refl in
     record { value = all.0; bytes_after = all.1 }
 
 pub returns-then-d-r : goal.returns-then-d-r
@@ -27,40 +27,40 @@ returns-then-d-r c =
     let a = c.args in
     let all = refused_as _ Refusal.TooFar
     (far-shown a.d a.block.now c.in_ok-open_number.ensures a.r (areas a.values.now a.flags.now a.ends.now a.bytes.now)
-    (sym c.column_of-column.ensures ∙ c.in-Of.is) c.if-d-r.true) refl in
+    (sym c.column_of.ensures ∙ c.in-Some.is) c.if-d-r.true) refl in
     record { value = all.0; bytes_after = all.1 }
 
 pub place_of-place-requires : goal.place_of-place-requires
 place_of-place-requires c =
     let a = c.args in
-    (opened a.d a.block.now c.in_ok-open_number.ensures (sym c.column_of-column.ensures ∙ c.in-Of.is), c.if-d-r.false)
+    (opened a.d a.block.now c.in_ok-open_number.ensures (sym c.column_of.ensures ∙ c.in-Some.is), c.if-d-r.false)
 
 pub slice_bounds-give-count : goal.slice_bounds-give-count
 slice_bounds-give-count c =
     let a = c.args in
-    (found a.d a.block.now c.in_ok-open_number.ensures (sym c.column_of-column.ensures ∙ c.in-Of.is) c.place_of-place.ensures).ordered
+    (found a.d a.block.now c.in_ok-open_number.ensures (sym c.column_of.ensures ∙ c.in-Some.is) c.place_of-place.ensures).ordered
 
 pub slice_bounds-give-start : goal.slice_bounds-give-start
 slice_bounds-give-start c =
     let a = c.args in
-    (found a.d a.block.now c.in_ok-open_number.ensures (sym c.column_of-column.ensures ∙ c.in-Of.is) c.place_of-place.ensures).ordered
+    (found a.d a.block.now c.in_ok-open_number.ensures (sym c.column_of.ensures ∙ c.in-Some.is) c.place_of-place.ensures).ordered
 
 pub slice_bounds-give-end : goal.slice_bounds-give-end
 slice_bounds-give-end c =
     let a = c.args in
-    (found a.d a.block.now c.in_ok-open_number.ensures (sym c.column_of-column.ensures ∙ c.in-Of.is) c.place_of-place.ensures).inside
+    (found a.d a.block.now c.in_ok-open_number.ensures (sym c.column_of.ensures ∙ c.in-Some.is) c.place_of-place.ensures).inside
 
 pub give-requires : goal.give-requires
 give-requires c =
     let a = c.args in
-    let names = sym c.column_of-column.ensures ∙ c.in-Of.is in
+    let names = sym c.column_of.ensures ∙ c.in-Some.is in
     let s = found a.d a.block.now c.in_ok-open_number.ensures names c.place_of-place.ensures in
     (s.few, part-short s (rules-kept a.d a.block.now c.in_ok-open_number.ensures names).0, s.sound, s.slot)
 
 pub returns : goal.returns
 returns c =
     let a = c.args in
-    let names = sym c.column_of-column.ensures ∙ c.in-Of.is in
+    let names = sym c.column_of.ensures ∙ c.in-Some.is in
     let all = gives_as c.give.result
     (place-shown a.d a.block.now c.in_ok-open_number.ensures a.r (areas a.values.now a.flags.now a.ends.now a.bytes.now) names
     (found a.d a.block.now c.in_ok-open_number.ensures names c.place_of-place.ensures) c.if-d-r.false)
