@@ -2,42 +2,39 @@
 #![tactic(auto)]
 
 ghost use Rattle.std.specs.Prelude.{◌≡◌};
+ghost use Rattle.limits.specs.Refusals.{by_number};
 ghost use Rattle.damaged.specs.Taken.{taken_of};
 
 use anatomy::Parts;
 use descriptor::Descriptor;
-use format::{Column, Encoding, Found};
-use limits::refusal;
+use format::Encoding;
+use limits::refusal::Refusal;
 
-// The parts of such a block, or the number of the refusal.
-pub fn take_damaged(d: Descriptor, block: &[u8]) -> Result<Parts, u8>
-    ensures { result ≡ taken_of d block.now }
+// The parts of such a block, or the refusal.
+pub fn take_damaged(d: Descriptor, block: &[u8]) -> Result<Parts, Refusal>
+    ensures { by_number result ≡ taken_of d block.now }
 {
     if d.zero != 0 {
-        return Err(refusal::COLUMN);
+        return Err(Refusal::Column);
     }
-    let column = format::column_of(d.kind, d.encoding, d.width);
-    let Column::Of { kind, encoding } = column else {
-        return Err(refusal::COLUMN);
+    let Some(column) = format::column_of(d.kind, d.encoding, d.width) else {
+        return Err(Refusal::Column);
     };
-    let Encoding::Dictionary = encoding else {
-        return Err(refusal::COLUMN);
+    let Encoding::Dictionary = column.encoding else {
+        return Err(Refusal::Column);
     };
     if limits::MOST_BYTES < block.len() {
-        return Err(refusal::LIMIT);
+        return Err(Refusal::Limit);
     }
     if limits::MOST_ROWS < d.rows {
-        return Err(refusal::LIMIT);
+        return Err(Refusal::Limit);
     }
-    let found = format::check_but_keys(kind, d.rows, block);
-    match found {
-        Found::Sound(head) => Ok(anatomy::take_apart(
-            kind,
-            Encoding::Dictionary,
-            d.rows,
-            block.len(),
-            head,
-        )),
-        Found::Refused(number) => Err(number),
-    }
+    let head = format::check_but_keys(column.kind, d.rows, block)?;
+    Ok(anatomy::take_apart(
+        column.kind,
+        Encoding::Dictionary,
+        d.rows,
+        block.len(),
+        head,
+    ))
 }
