@@ -9,7 +9,7 @@ ghost use Rattle.text.specs.Input.{input_opened};
 ghost use Rattle.printing.specs.Printing.{refusal_of, next_row, rows_refused, listed};
 
 use block::{Given, Reader};
-use encode::{FoundKind, Kind};
+use encode::Kind;
 use limits::refusal;
 
 // Lists the input on standard output. What comes back is 0 or the number that was printed behind `refused`. It is a number and no `Refusal`
@@ -79,8 +79,7 @@ fn say_rows(reader: Reader, n: usize, block: &[u8]) -> u8
     requires { (remaining reader).number ≡ 0 }
     ensures { result ≡ rows_refused n reader block.now MOST_INPUT }
 {
-    let found = encode::kind_of(reader.kind, reader.width);
-    let FoundKind::Known(kind) = found else {
+    let Some(kind) = encode::kind_of(reader.kind, reader.width) else {
         say_refused(refusal::DISAGREE);
         return refusal::DISAGREE;
     };

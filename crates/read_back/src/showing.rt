@@ -1,4 +1,5 @@
 // Rows as they were read.
+use encode::Kind;
 use block::Reader;
 use script::{byte, first, rest, say, show, show_bytes};
 
@@ -28,21 +29,6 @@ fn show_texts(n: usize, flags: &[u8], ends: &[u32], bytes: &[u8]) {
     }
 }
 
-fn is_fixed(kind: encode::Kind) -> bool {
-    match kind {
-        encode::Kind::Fixed(_) => true,
-        _ => false,
-    }
-}
-
-// Rows of a fixed kind are integers, those of the others bytes.
-fn are_ints(found: encode::FoundKind) -> bool {
-    match found {
-        encode::FoundKind::Known(kind) => is_fixed(kind),
-        encode::FoundKind::Unknown => false,
-    }
-}
-
 pub fn show_rows(
     reader: Reader,
     n: usize,
@@ -53,7 +39,8 @@ pub fn show_rows(
 ) {
     show(n);
     say(b":");
-    if are_ints(encode::kind_of(reader.kind, reader.width)) {
+    // rows of a fixed kind are integers, those of the others bytes
+    if let Some(Kind::Fixed(_)) = encode::kind_of(reader.kind, reader.width) {
         show_ints(n, values, flags);
     } else {
         show_texts(n, flags, ends, bytes);

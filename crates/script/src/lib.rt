@@ -46,7 +46,7 @@ fn byte_after(s: &[u8], at: usize, n: usize) -> u8
 fn eight_after(s: &[u8], at: usize) -> u64
     ensures { result ≡ number_of low_first (eight_after s.now at) }
 {
-    encode::low8([
+    encode::low::<8>([
         byte_after(s, at, 1),
         byte_after(s, at, 2),
         byte_after(s, at, 3),

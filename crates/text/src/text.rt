@@ -69,7 +69,7 @@ fn put_value(p: Primitive, v: i64, out: &mut [u8], at: usize) -> usize
     ensures value { (result ≡ at + length (value_text p v)) × (result ≤ at + 43) }
     ensures out_after { out.new ≡ sets out.old at (value_text p v) }
 {
-    let bits = encode::bits_of(v);
+    let bits = v.cast_unsigned();
     if is_interval(p) {
         return put_interval(bits, out, at);
     }

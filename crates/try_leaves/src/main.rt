@@ -184,10 +184,10 @@ fn kind(id: usize, width: usize) {
     number(width as u64);
     say(b" ");
     match encode::kind_of(id, width) {
-        encode::FoundKind::Known(k) => {
+        Some(k) => {
             known(k);
         }
-        encode::FoundKind::Unknown => {
+        None => {
             say(b"unknown");
         }
     }
