@@ -44,12 +44,6 @@ pub by_number : (k w : ℕ) {r : Option Kind} → (k ≡ 8 → ⊥) → w ≡ 0 
 unfolding kind_of
 by_number k w other z e = e ∙ simp (ne_eqb k 8 other, eq-eqb w 0 z)
 
--- ---- encodings
-pub no-encoding :
-    (e : ℕ) (n0 : e ≡ 0 → ⊥) (n1 : e ≡ 1 → ⊥) (n2 : e ≡ 2 → ⊥) (n3 : e ≡ 3 → ⊥) (n4 : e ≡ 4 → ⊥) → None ≡ encoding_of e
-unfolding encoding_of
-no-encoding e n0 n1 n2 n3 n4 = simp (ne_eqb e 0 n0, ne_eqb e 1 n1, ne_eqb e 2 n2, ne_eqb e 3 n3, ne_eqb e 4 n4)
-
 -- ---- the number
 -- the rules of the encoding that a match found
 pub rules-found : (k : Kind) {e : Encoding} (n : ℕ) (b : List ℕ) (f : Encoding) {r : ℕ} → e ≡ f → r ≡ rules_of k f n b → r ≡ rules_of k e n b

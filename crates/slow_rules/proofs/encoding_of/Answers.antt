@@ -1,7 +1,7 @@
 -- `encoding_of` meets its contract: each arm is the encoding of its number. Assumes nothing.
 use mathlib.Core.Path.{sym, ap}
 use Rattle.format.specs.Blocks.{encoding_of}
-use Rattle.slow_rules.proofs.Columns.{no-encoding}
+use Rattle.format.proofs.Pairs.{no-encoding}
 use Rattle.slow_rules.proofs.encoding_of.Goals as goal
 
 pub returns-in-0 : goal.returns-in-0
