@@ -66,7 +66,7 @@ returns-in-Low4 c =
     let wide : (w : ℕ) → wide_as c.shape-shape.result ≡ w → width_of c.args.p ≡ w = λ w e. ap wide_as (sym c.shape-shape.ensures) ∙ e in
     (let a = c.args in let fit : (j : ℕ) → get_or a.items.now j 0 < 256 = λ j. omega (arith, c.type_inv.items j) in
     word-found a.p a.items.now a.n a.value fit c.requires (taken) 4 (wide 4 (four-shaped c.shape-shape.result c.in-Low4.in-Low4-own.keys3)) (lit< tt)
-    ((c.encode-in-Low4.ensures ∙ ap (λ (v : ℤ). in_eight (encoded c.args.p v)) (to_z-of_z c.ranges.value))) c.low.ensures.0 c.find_number-in-Low4.ensures)
+    ((c.encode-in-Low4.ensures ∙ ap (λ (v : ℤ). in_eight (encoded c.args.p v)) (to_z-of_z c.ranges.value))) c.low-in-Low4.ensures.0 c.find_number-in-Low4.ensures)
 
 pub returns-in-Low8 : goal.returns-in-Low8
 returns-in-Low8 c =
@@ -74,4 +74,4 @@ returns-in-Low8 c =
     let wide : (w : ℕ) → wide_as c.shape-shape.result ≡ w → width_of c.args.p ≡ w = λ w e. ap wide_as (sym c.shape-shape.ensures) ∙ e in
     (let a = c.args in let fit : (j : ℕ) → get_or a.items.now j 0 < 256 = λ j. omega (arith, c.type_inv.items j) in
     word-found a.p a.items.now a.n a.value fit c.requires (taken) 8 (wide 8 (eight-shaped c.shape-shape.result c.in-Low8.in-Low8-own.keys4)) (lit< tt)
-    ((c.encode-in-Low8.ensures ∙ ap (λ (v : ℤ). in_eight (encoded c.args.p v)) (to_z-of_z c.ranges.value))) c.low.ensures c.find_number-in-Low8.ensures)
+    ((c.encode-in-Low8.ensures ∙ ap (λ (v : ℤ). in_eight (encoded c.args.p v)) (to_z-of_z c.ranges.value))) c.low-in-Low8.ensures.0 c.find_number-in-Low8.ensures)
