@@ -209,7 +209,8 @@ fn whole(len: usize, due: usize) -> Result<(), Refusal>
     Err(Refusal::Length)
 }
 
-// Whether each char item up to its first NUL is text, and each string item.
+// Whether each char item up to its first NUL is text, and each string item: two loops, since what they look up asks for other facts; one over a
+// closure that says them is longer.
 fn chars_are_text(w: usize, n: usize, s: &[u8]) -> bool
     requires { (n ≤ MOST_ITEMS) × (w < 256) × (n * w ≤ length s.now) }
     ensures { result ≡ all_text (Char w) n s.now }

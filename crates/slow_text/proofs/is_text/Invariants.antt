@@ -3,4 +3,4 @@ use Rattle.slow_text.proofs.Going.{Going}
 use Rattle.slow_text.proofs.is_text.Given as goal
 
 abbrev pub invariant-loop-i : goal.invariant-loop-i
-invariant-loop-i l = Going l.s l.from l.n l.d l.i
+invariant-loop-i l = Going l.s l.from l.n l.due l.i
