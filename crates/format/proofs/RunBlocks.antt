@@ -1,4 +1,5 @@
 -- A run-length block: the answer on each way through `check_runs`, over any inner rules. Assumes nothing.
+use Rattle.std.specs.Prelude.{Option, Some, None, Result, Ok, Err}
 use Prim.Native.Nat.{ℕ, ◌+◌, ◌-◌}
 use native.Mathlib.Omega.{arith}
 use mathlib.Core.List.{List, [], ◌∷◌}
@@ -6,9 +7,8 @@ use mathlib.Core.Path.{◌≡◌, refl, sym, ap, ◌∙◌}
 use lib.ListN.{length, take, drop, length-drop}
 use lib.Seq.{take_all}
 use Rattle.rle.specs.declared.RunHead.{RunHead}
-use Rattle.rle.specs.declared.RunHead.TheVariants.{Empty, Runs, Refused as HeadRefused}
 use Rattle.rle.specs.RunLength.{runs_in, counts_length, inner_part, run_length_number}
-use Rattle.rle.specs.Pieces.{head_found, number_by}
+use Rattle.rle.specs.Pieces.{head_found, number_by, run_head}
 use Rattle.rle.proofs.Opening.{Sound as SoundHead, head-number, head-sound, head-empty, head-refused}
 use Rattle.format.specs.declared.Found.{Found}
 use Rattle.format.specs.declared.Found.TheVariants.{Sound, Refused}
@@ -26,28 +26,28 @@ no-head [] h = refl
 no-head (x ∷ b) h = absurd (omega arith)
 
 pub head-right :
-    (n : ℕ) (b : List ℕ) {g : RunHead} {runs counts : ℕ} → g ≡ head_found n b → g ≡ Runs runs counts → SoundHead n b runs counts
+    (n : ℕ) (b : List ℕ) {g : Result (Option RunHead) ℕ} {runs counts : ℕ} → g ≡ head_found n b → g ≡ Ok (Some (run_head runs counts)) → SoundHead n b runs counts
 head-right n b p q = head-sound n b (sym p ∙ q)
 
-module _ (inner : ℕ → List ℕ → ℕ) (n : ℕ) (b : List ℕ) {g : RunHead} (p : g ≡ head_found n b) where
+module _ (inner : ℕ → List ℕ → ℕ) (n : ℕ) (b : List ℕ) {g : Result (Option RunHead) ℕ} (p : g ≡ head_found n b) where
   abbrev answer : Found
   answer = found_by (run_length_number inner n b) (runs_head b)
 
   -- the head was found to be so
-  number_is : {h : RunHead} → g ≡ h → run_length_number inner n b ≡ number_by inner b h
+  number_is : {h : Result (Option RunHead) ℕ} → g ≡ h → run_length_number inner n b ≡ number_by inner b h
   number_is q = head-number inner n b ∙ ap (number_by inner b) (sym p ∙ q)
 
-  pub no_block : g ≡ Empty → found_by 0 (head 0 0 0 0) ≡ answer
+  pub no_block : g ≡ Ok None → found_by 0 (head 0 0 0 0) ≡ answer
   unfolding number_by
   no_block q = rw (number_is q, no-head b (head-empty n b (sym p ∙ q)).0)
 
-  pub head-wrong : {e : ℕ} → g ≡ HeadRefused e → Refused e ≡ answer
+  pub head-wrong : {e : ℕ} → g ≡ Err e → Refused e ≡ answer
   unfolding number_by
   head-wrong {e} q = let l = head-refused n b (sym p ∙ q) in rw (number_is q) (refused-by e (runs_head b) (λ z. omega arith))
 
   -- the inner block was checked where it stands, behind the counts
   module _
-      {runs counts r : ℕ} (q : g ≡ Runs runs counts) (i : r ≡ inner runs (take (length b - (8 + counts)) (drop (8 + counts) b)))
+      {runs counts r : ℕ} (q : g ≡ Ok (Some (run_head runs counts))) (i : r ≡ inner runs (take (length b - (8 + counts)) (drop (8 + counts) b)))
     where
       inner-is : run_length_number inner n b ≡ r
       unfolding number_by inner_part

@@ -1,6 +1,6 @@
 -- 01, "Sound blocks, in order of testing": the number that opening gives for any five arguments, 0 exactly for a sound block; and the rows that a
 -- sound block holds. Sums and products here are of whole numbers, and none can wrap. Assumes nothing.
-use Rattle.std.specs.Prelude.{ℕ, Bool, true, false, List, [], ◌∷◌, map, ltb, length}
+use Rattle.std.specs.Prelude.{ℕ, List, [], ◌∷◌, map, ltb, length}
 use Rattle.limits.specs.Limits.{MOST_ROWS, MOST_ITEMS, MOST_BYTES}
 use Rattle.limits.specs.Refusals.{COLUMN, LIMIT}
 use Rattle.encode.specs.declared.Kind.{Kind}
@@ -9,7 +9,7 @@ use Rattle.plain.specs.Rules.{◌if◌, first_of}
 use Rattle.plain.specs.Plain.{places, plain_number, plain_row}
 use Rattle.nullable.specs.Nullable.{nullable_number, nullable_row}
 use Rattle.rle.specs.RunLength.{runs_in, counts_length, counts_part, inner_part, run_length_number, run_numbers}
-use Rattle.dict.specs.Dictionary.{i32, key_length, entries_in, key_part, entries_part, slot_at, dictionary_number, entry_row}
+use Rattle.dict.specs.Dictionary.{key_length, entries_in, key_part, entries_part, slot_at, dictionary_number, entry_row}
 use Rattle.format.specs.declared.Encoding.{Encoding}
 use Rattle.format.specs.declared.Encoding.TheVariants.{Plain, Nullable, RunLength, RunLengthNullable, Dictionary}
 use Rattle.format.specs.declared.Column.{Column}

@@ -11,7 +11,6 @@ ghost use Rattle.format.specs.Found.{found_by, inner_number, runs_head, key_bloc
 
 use encode::{FoundKind, Kind, Primitive};
 use limits::refusal;
-use rle::RunHead;
 
 // How a column is laid out: encodings 0 to 4.
 #[derive(Clone, Copy)]
@@ -123,19 +122,18 @@ fn check_runs(kind: Kind, nullable: bool, rows: usize, s: &[u8]) -> Found
     requires { length s.now ≤ MOST_BYTES }
     ensures { result ≡ found_by (run_length_number (inner_number nullable kind) rows s.now) (runs_head s.now) }
 {
-    let head = rle::find_head(rows as u64, s);
-    match head {
-        RunHead::Empty => bare(0),
-        RunHead::Refused(e) => Found::Refused(e),
-        RunHead::Runs { runs, counts } => {
-            let end = 8 + counts;
-            let number = check_inner(kind, nullable, runs, &s[end..]);
+    match rle::find_head(rows as u64, s) {
+        Ok(None) => bare(0),
+        Err(e) => Found::Refused(u8::from(e)),
+        Ok(Some(head)) => {
+            let end = 8 + head.counts;
+            let number = check_inner(kind, nullable, head.runs, &s[end..]);
             if number != 0 {
                 return Found::Refused(number);
             }
             Found::Sound(Head {
-                runs,
-                counts,
+                runs: head.runs,
+                counts: head.counts,
                 keys: 0,
                 entries: 0,
             })
