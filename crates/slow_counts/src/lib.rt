@@ -8,7 +8,6 @@ ghost use Rattle.rle.specs.RunLength.{walked, walk_number, run_numbers};
 ghost use Rattle.slow_counts.specs.Within.{Within};
 
 use limits::refusal::Refusal;
-use varint::Count;
 
 // The counts of `runs` runs, which have to be all of the bytes and come to `rows` rows.
 pub fn counts_number(rows: usize, runs: usize, counts: &[u8]) -> Result<(), Refusal>
@@ -21,15 +20,14 @@ pub fn counts_number(rows: usize, runs: usize, counts: &[u8]) -> Result<(), Refu
         if counts.len() <= at {
             return Err(Refusal::Counts);
         }
-        let count = slow_numbers::count_at(counts, at);
-        let Count::Number { value, len } = count else {
+        let Some(count) = slow_numbers::count_at(counts, at) else {
             return Err(Refusal::Varint);
         };
-        if value == 0 {
+        if count.value == 0 {
             return Err(Refusal::Counts);
         }
-        sum += value as usize;
-        at += len;
+        sum += count.value as usize;
+        at += count.len;
     }
     if at < counts.len() {
         return Err(Refusal::Counts);
@@ -48,15 +46,14 @@ pub fn run_of(counts: &[u8], runs: usize, row: usize) -> usize
     let mut left = row;
     let mut at = 0;
     for run in 0..runs {
-        let count = slow_numbers::count_at(counts, at);
-        let Count::Number { value, len } = count else {
+        let Some(count) = slow_numbers::count_at(counts, at) else {
             return run;
         };
-        if left < value as usize {
+        if left < count.value as usize {
             return run;
         }
-        left -= value as usize;
-        at += len;
+        left -= count.value as usize;
+        at += count.len;
     }
     runs
 }

@@ -3,8 +3,7 @@
 
 ghost use Rattle.std.specs.Prelude.{◌≡◌, ◌+◌, ◌≤◌, ◌<◌, ◌^◌, length, take, drop};
 ghost use Rattle.encode.specs.Bytes.{number_of};
-ghost use Rattle.varint.specs.declared.Count.TheVariants.{Number};
-ghost use Rattle.varint.specs.Varint.{count_at, in_32_bits};
+ghost use Rattle.varint.specs.Varint.{count_at, counted, in_32_bits};
 ghost use Rattle.slow_numbers.specs.Numbers.{order_by, place_by, idle_after, ahead};
 
 use varint::Count;
@@ -41,7 +40,7 @@ fn place(at: usize, w: usize, high: bool, i: usize) -> usize
 
 // The count at a place: seven bits a byte, the lowest first, and in all but the last byte the top bit set; at most five bytes, no byte too
 // many, below 2^32.
-pub fn count_at(s: &[u8], at: usize) -> Count
+pub fn count_at(s: &[u8], at: usize) -> Option<Count>
     requires { at ≤ length s.now }
     ensures { result ≡ count_at s.now at }
 {
@@ -49,7 +48,7 @@ pub fn count_at(s: &[u8], at: usize) -> Count
     let mut worth: u64 = 1;
     for i in 0..5 {
         if s.len() - at <= i {
-            return Count::Bad;
+            return None;
         }
         let b = wide(s[at + i]);
         if b < 128 {
@@ -58,7 +57,7 @@ pub fn count_at(s: &[u8], at: usize) -> Count
         value += (b - 128) * worth;
         worth *= 128;
     }
-    Count::Bad
+    None
 }
 
 // Whether a last byte is one too many: it is worth nothing, and others stand before it.
@@ -72,19 +71,19 @@ fn idle(i: usize, b: u64) -> bool
 }
 
 // A count whose last byte comes after `i` others, which are worth `value` together.
-fn last_byte(value: u64, worth: u64, i: usize, b: u64) -> Count
+fn last_byte(value: u64, worth: u64, i: usize, b: u64) -> Option<Count>
     requires { (value < worth) × (worth ≤ 2 ^ 28) × (i < 5) × (b < 128) }
-    ensures { result ≡ in_32_bits (ahead value worth i (Number b 1)) }
+    ensures { result ≡ in_32_bits (ahead value worth i (counted b 1)) }
 {
     if idle(i, b) {
-        return Count::Bad;
+        return None;
     }
     let whole = value + b * worth;
     if 0xffff_ffff < whole {
-        return Count::Bad;
+        return None;
     }
-    Count::Number {
+    Some(Count {
         value: whole as u32,
         len: i + 1,
-    }
+    })
 }

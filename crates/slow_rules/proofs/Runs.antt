@@ -11,7 +11,6 @@ use Rattle.encode.specs.Bytes.{number}
 use Rattle.limits.specs.Limits.{MOST_ITEMS}
 use Rattle.limits.specs.Refusals.{SUM}
 use Rattle.plain.specs.Rules.{◌if◌, first_of}
-use Rattle.rle.specs.declared.RunHead.TheVariants.{Refused}
 use Rattle.rle.specs.RunLength.{runs_in, counts_length, counts_part, inner_part, walked, walk_number, run_length_number}
 use Rattle.rle.specs.Pieces.{head_found, number_by}
 use Rattle.rle.proofs.Opening.{head-number}

@@ -8,7 +8,6 @@ use lib.ListN.{length, take, drop, length-drop}
 use lib.Seq.{length-take-le}
 use Rattle.limits.specs.Limits.{MOST_ITEMS}
 use Rattle.encode.specs.Bytes.{number}
-use Rattle.rle.specs.declared.RunHead.TheVariants.{Runs as HeadRuns}
 use Rattle.rle.specs.RunLength.{runs_in, counts_length, counts_part, inner_part, walked, run_length_number}
 use Rattle.rle.specs.Pieces.{head_found, number_by}
 use Rattle.rle.proofs.Opening.{head-number, sum-right}

@@ -7,8 +7,7 @@ use Rattle.encode.specs.Kinds.{width_of, string}
 use Rattle.encode.specs.declared.Primitive.TheVariants.{I32}
 use Rattle.encode.specs.declared.Kind.{Kind}
 use Rattle.encode.specs.declared.Kind.TheVariants.{Fixed, Char, Blob}
-use Rattle.varint.specs.declared.Count.TheVariants.{Number}
-use Rattle.varint.specs.Varint.{count_of}
+use Rattle.varint.specs.Varint.{count_of, counted}
 use Rattle.plain.specs.Each.{Each}
 use Rattle.utf8.specs.Sequences.{Sequences}
 use Rattle.plain.specs.Rows.{bytes_in}
@@ -38,7 +37,7 @@ Field width order w = (length w.bytes ≡ width) × (number_of order w.bytes ≡
 
 -- a run count: a varint of at most 32 bits and five bytes, no longer than needed, above 0
 abbrev pub RunCount : Written → Type 0
-RunCount w = (count_of w.bytes ≡ Number w.value (length w.bytes)) × (0 < w.value)
+RunCount w = (count_of w.bytes ≡ counted w.value (length w.bytes)) × (0 < w.value)
 
 unfoldable pub total : List ℕ → ℕ
 total [] = 0

@@ -21,14 +21,14 @@ fn hex(s: &[u8], from: usize, n: usize) {
 }
 
 // ---- run counts
-fn found(count: varint::Count) {
+fn found(count: Option<varint::Count>) {
     match count {
-        varint::Count::Number { value, len } => {
-            number(value as u64);
+        Some(count) => {
+            number(count.value as u64);
             say(b" ");
-            number(len as u64);
+            number(count.len as u64);
         }
-        varint::Count::Bad => {
+        None => {
             say(b"bad");
         }
     }
@@ -56,7 +56,7 @@ fn written(value: u32, area: &mut [u8], at: usize) {
     say(b"count ");
     number(value as u64);
     match varint::encode_u32(value, area, at) {
-        varint::Wrote::Bytes { len } => {
+        Some(len) => {
             say(b" ");
             hex(area, at, len);
             say(b" ");
@@ -65,7 +65,7 @@ fn written(value: u32, area: &mut [u8], at: usize) {
             say(b" read ");
             found(varint::decode_u32(area, at));
         }
-        varint::Wrote::NoRoom => {
+        None => {
             say(b" no room");
             within(area, at);
         }
