@@ -1,4 +1,5 @@
 -- The number that a run-length block's rules give, by what the code read and tested, over any inner rules. Assumes nothing.
+use Rattle.std.specs.Prelude.{Err}
 use Prim.Native.Nat.{ℕ, ◌+◌, ◌-◌, ◌≤◌}
 use native.Mathlib.Omega.{arith}
 use mathlib.Core.Bool.{not}
@@ -23,7 +24,7 @@ module _ (inner : ℕ → List ℕ → ℕ) (n : ℕ) (b : List ℕ) where
   no_block h e = e ∙ simp (eq-eqb (length b) 0 h)
 
   -- a head that is refused gives its number
-  pub head-refused : {e : ℕ} → Refused e ≡ head_found n b → e ≡ run_length_number inner n b
+  pub head-refused : {e : ℕ} → Err e ≡ head_found n b → e ≡ run_length_number inner n b
   unfolding number_by
   head-refused q = ap (number_by inner b) q ∙ sym (head-number inner n b)
 
