@@ -58,7 +58,7 @@ fn give_chars(
     ensures bytes_after { bytes.new ≡ (text_filling parts from block.now n flags.old ends.old bytes.old).areas.bytes }
 {
     let total = item_rows::write_chars(w, parts, from, block, n, ends, bytes);
-    area::fill_bytes(flags, 0, n, 1);
+    area::fill(flags, 0, n, 1);
     Ok(Filled {
         bytes: total,
         next: from,

@@ -73,7 +73,7 @@ pub fn write_flags(parts: Parts, from: Spot, block: &[u8], n: usize, flags: &mut
     let source = parts.source;
     let by = source.marks;
     match by {
-        Marks::Bare => area::fill_bytes(flags, 0, n, 1),
+        Marks::Bare => area::fill(flags, 0, n, 1),
         Marks::Bits => write_bits(parts, from, block, n, flags),
         Marks::Keys => write_marks(parts, from, block, n, flags),
     }

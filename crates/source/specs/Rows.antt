@@ -9,7 +9,6 @@ use Rattle.plain.specs.Plain.{all_of, least_bytes}
 use Rattle.nullable.specs.Nullable.{bit_at, presence}
 use Rattle.rle.specs.declared.Spot.{Spot}
 use Rattle.rle.specs.declared.Piece.{Piece}
-use Rattle.rle.specs.declared.Piece.TheVariants.{Rows as SomeRows, Stuck as NoPiece}
 use Rattle.rle.specs.Stepping.{Steps, stuck, rows}
 use Rattle.rle.specs.Pieces.{piece_in, steps_in, Fine, step_runs}
 use Rattle.dict.specs.Dictionary.{slot_at, entry_row, entry_good}
@@ -73,9 +72,11 @@ sees_by s marks i = ltb i (most_by s.marks s.items s.runs) && leb (seen_by s.mar
 abbrev pub look : ℕ → ℕ → Spot → Look
 look seen k t = record { seen = seen; rows = k; next = t }
 
-unfoldable pub look_by : Source → List ℕ → ℕ → Piece → Option Look
-look_by s marks i NoPiece = None
-look_by s marks i (SomeRows k t) = cond (eqb k 0) (Some (look 0 k t)) (cond (sees_by s marks i) (Some (look (seen_by s.marks marks i) k t)) None)
+unfoldable pub look_by : Source → List ℕ → ℕ → Option Piece → Option Look
+look_by s marks i None = None
+look_by s marks i (Some p) =
+    cond (eqb p.rows 0) (Some (look 0 p.rows p.next))
+    (cond (sees_by s marks i) (Some (look (seen_by s.marks marks i) p.rows p.next)) None)
 
 -- the parts are long enough for their items, bits and keys
 unfoldable pub MarkBytes : Marks → ℕ → ℕ → ℕ → Type 0
@@ -99,7 +100,7 @@ abbrev pub Starts : Source → Spot → ℕ → Type 0
 Starts s from n = StartsBy s.coded from.run s.runs n
 
 -- some rows of the next run, and the next n rows
-abbrev pub piece_of : Source → List ℕ → Spot → ℕ → Piece
+abbrev pub piece_of : Source → List ℕ → Spot → ℕ → Option Piece
 piece_of s counts at left = piece_in s.coded s.runs counts at left
 
 abbrev pub steps_of : Source → List ℕ → ℕ → Spot → Steps
@@ -126,9 +127,9 @@ weighed_by p f (rows is t) = cond (all_of p is) (Some (weighed (capped (sum_of f
 
 -- ---- writing wants the rows to be there and good, and room for them
 -- some rows of run i
-unfoldable pub Good : (ℕ → Bool) → ℕ → Piece → Type 0
-Good good i NoPiece = ⊥
-Good good i (SomeRows k t) = 0 < k → good i ≡ true
+unfoldable pub Good : (ℕ → Bool) → ℕ → Option Piece → Type 0
+Good good i None = ⊥
+Good good i (Some p) = 0 < p.rows → good i ≡ true
 
 pub record Writes (good : ℕ → Bool) (steps : Steps) (n room : ℕ) : Type 0 where
   pub fine : Fine steps

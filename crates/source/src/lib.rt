@@ -3,18 +3,18 @@
 // bytes and the flag of an item. `weigh`, `fixed_rows` and `byte_rows` have the loops.
 #![tactic(auto)]
 
-ghost use Rattle.std.specs.Prelude.{◌≡◌, true, ◌+◌, ◌-◌, ◌<◌, ◌≤◌, length, take, drop, replicate};
+ghost use Rattle.std.specs.Prelude.{◌≡◌, true, ◌+◌, ◌-◌, ◌<◌, ◌≤◌, length, take, drop, replicate, Some};
 ghost use Rattle.std.proofs.lemmas.List.Edits.{sets};
 ghost use Rattle.limits.specs.Limits.{MOST_ITEMS};
 ghost use Rattle.encode.specs.Kinds.{blob};
 ghost use Rattle.encode.specs.declared.Kind.TheVariants.{Char};
 ghost use Rattle.plain.specs.Plain.{least_bytes, ends_good};
-ghost use Rattle.rle.specs.declared.Piece.TheVariants.{Rows};
+ghost use Rattle.rle.specs.Pieces.{run_piece};
 ghost use Rattle.source.specs.Rows.{shown_by, seen_by, most_by, text_of, good_by, Ready, piece_of, look_by, Good};
 
 use encode::Kind;
 use plain::Range;
-use rle::{Piece, Spot};
+use rle::Spot;
 
 // What stands beside the items: nothing, a bit a row, or a key a run.
 #[derive(Clone, Copy)]
@@ -134,10 +134,9 @@ pub fn seen_run(
     requires { Ready s marks.now items.now × (at.run ≤ MOST_ITEMS) }
     ensures { result ≡ look_by s marks.now at.run (piece_of s counts.now at left) }
 {
-    let piece = rle::take_piece(s.coded, counts, s.runs, at, left);
-    let Piece::Rows { rows, next } = piece else {
-        return None;
-    };
+    let piece = rle::take_piece(s.coded, counts, s.runs, at, left)?;
+    let rows = piece.rows;
+    let next = piece.next;
     if rows == 0 {
         return Some(Look {
             seen: 0,
@@ -162,18 +161,20 @@ pub fn shown_run(
     left: usize,
 ) -> ShownRun
     requires { Ready s marks.now items.now × (at.run ≤ MOST_ITEMS) × Good (good_by s marks.now items.now) at.run (piece_of s counts.now at left) }
-    ensures { (piece_of s counts.now at left ≡ Rows result.rows result.next)
+    ensures { (piece_of s counts.now at left ≡ Some (run_piece result.rows result.next))
         × (0 < result.rows → result.slot ≡ shown_by s.marks marks.now at.run) × (result.slot ≤ s.items)
         × (0 < result.slot → ends_good s.kind s.items items.now (result.slot - 1) ≡ true) }
 {
-    let piece = rle::take_piece(s.coded, counts, s.runs, at, left);
-    let Piece::Rows { rows, next } = piece else {
+    let taken = rle::take_piece(s.coded, counts, s.runs, at, left);
+    let Some(piece) = taken else {
         return ShownRun {
             slot: 0,
             rows: 0,
             next: at,
         };
     };
+    let rows = piece.rows;
+    let next = piece.next;
     if rows == 0 {
         return ShownRun {
             slot: 0,
@@ -224,5 +225,5 @@ pub fn fill_flags(flags: &mut [u8], to: usize, rows: usize, flag: u8)
         flags[to] = flag;
         return;
     }
-    area::fill_bytes(flags, to, rows, flag);
+    area::fill(flags, to, rows, flag);
 }

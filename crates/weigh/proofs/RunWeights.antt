@@ -15,8 +15,8 @@ use Rattle.plain.specs.Rows.{bytes_in}
 use Rattle.plain.specs.Plain.{end_at, start_at, blob_at, ends_good, plain_row}
 use Rattle.rle.specs.declared.Spot.{Spot}
 use Rattle.rle.specs.declared.Piece.{Piece}
-use Rattle.rle.specs.declared.Piece.TheVariants.{Rows, Stuck as NoPiece}
 use Rattle.dict.specs.Dictionary.{entry_row, entry_good}
+use Rattle.rle.specs.Pieces.{run_piece}
 use Rattle.source.specs.declared.Source.{Source}
 use Rattle.source.specs.declared.Look.{Look}
 use Rattle.source.specs.Rows.{shown_by, seen_by, text_of, size_by, good_by, piece_of, steps_of, look_by, capped, weight_of, weighed_by, Texts}
@@ -113,10 +113,10 @@ module _ (s : Source) (marks items counts : List ℕ) (n : ℕ) (from : Spot) wh
         → None ≡ weighed_by (good_by s marks items) (size_by s marks items) (steps_of s counts n from)
     weighs-wrong q = go (piece_of s counts at left) refl (subst (Tells s marks at.run _) (sym q) (tells s marks at.run _))
       where
-        go : (p : Piece) → p ≡ piece_of s counts at left → Tells s marks at.run p None
+        go : (p : Option Piece) → p ≡ piece_of s counts at left → Tells s marks at.run p None
             → None ≡ weighed_by (good_by s marks items) (size_by s marks items) (steps_of s counts n from)
-        go NoPiece g h = weighing-stuck w l g refl
-        go (Rows k t) g h = weighing-broken w l g refl h.0 (unseen-bad s marks at.run items h.1)
+        go None g h = weighing-stuck w l g refl
+        go (Some x) g h = weighing-broken w l g refl h.0 (unseen-bad s marks at.run items h.1)
 
     module _ {x : Look} (q : Some x ≡ look_by s marks at.run (piece_of s counts at left)) where
       abbrev seen : ℕ
@@ -131,7 +131,7 @@ module _ (s : Source) (marks items counts : List ℕ) (n : ℕ) (from : Spot) wh
       told : Tells s marks at.run (piece_of s counts at left) (Some x)
       told = subst (Tells s marks at.run _) (sym q) (tells s marks at.run _)
 
-      pub weighs-piece : piece_of s counts at left ≡ Rows k t
+      pub weighs-piece : piece_of s counts at left ≡ Some (run_piece k t)
       weighs-piece = told.0
 
       pub weighs-seen : (seen ≤ s.items) × (0 < seen → seen ≡ seen_by s.marks marks at.run)

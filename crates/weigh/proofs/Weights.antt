@@ -7,16 +7,15 @@ use mathlib.Core.List.{List, ◌++◌}
 use mathlib.Core.Logic.{⊎_elim}
 use mathlib.Core.Path.{◌≡◌, refl, sym, ◌∙◌}
 use lib.ListN.{replicate}
-use Rattle.std.specs.Prelude.{Some, None}
+use Rattle.std.specs.Prelude.{Some, None, Option}
 use borrow.Author.Tests.{lt-ltb, le-ltb}
 use Rattle.area.proofs.Laws.{lt-or-ge}
 use Rattle.limits.specs.Limits.{MOST_BYTES, MOST_GIVEN}
 use Rattle.plain.specs.Plain.{all_of}
 use Rattle.rle.specs.declared.Spot.{Spot}
 use Rattle.rle.specs.declared.Piece.{Piece}
-use Rattle.rle.specs.declared.Piece.TheVariants.{Rows, Stuck as NoPiece}
 use Rattle.rle.specs.Stepping.{Steps, stuck, rows, before}
-use Rattle.rle.specs.Pieces.{piece_in, steps_in}
+use Rattle.rle.specs.Pieces.{run_piece, piece_in, steps_in}
 use Rattle.source.specs.Rows.{StartsBy, capped, sum_of, weighed, weighed_by}
 use Rattle.source.proofs.Folds.{all_append, all_same, all-bad, sum-append, sum_same}
 use Rattle.source.proofs.Progress.{Progress, progress_start, progress-end, progress-stuck, progress-on, whole-on}
@@ -87,11 +86,11 @@ module _ {p : ℕ → Bool} {f : ℕ → ℕ} {coded : Bool} {runs : ℕ} {count
   pub weighing-end : left ≤ 0 → Some (weighed total at) ≡ weighed_by p f (steps_in coded runs counts n from)
   weighing-end h = rw (w.weight, progress-end w.progress h) (weighed-good p f w.progress.done at w.right)
 
-  module _ (l : 0 < left) {x : Piece} (e : x ≡ piece_in coded runs counts at left) where
-    pub weighing-stuck : x ≡ NoPiece → None ≡ weighed_by p f (steps_in coded runs counts n from)
+  module _ (l : 0 < left) {x : Option Piece} (e : x ≡ piece_in coded runs counts at left) where
+    pub weighing-stuck : x ≡ None → None ≡ weighed_by p f (steps_in coded runs counts n from)
     weighing-stuck b = weighed-stuck p f (progress-stuck w.progress l e b)
 
-    module _ {k : ℕ} {t : Spot} (b : x ≡ Rows k t) where
+    module _ {k : ℕ} {t : Spot} (b : x ≡ Some (run_piece k t)) where
       pub weighing-broken : 0 < k → p at.run ≡ false → None ≡ weighed_by p f (steps_in coded runs counts n from)
       weighing-broken m h =
           rw (whole-on w.progress l e b) (weighed-bad p f (w.progress.done ++ replicate k at.run) _ (all-bad p w.progress.done k at.run m h))
