@@ -1,17 +1,17 @@
 -- The texts of a run's rows, which are those of its item: room for them, and the step of the loops that write them. Assumes nothing.
-use Rattle.std.specs.Prelude.{Some}
 use Prim.Native.Nat.{ℕ, ◌+◌, ◌-◌, ◌*◌, ◌^◌, ◌≤◌, ◌<◌}
 use native.Mathlib.Nat.{zero-mul}
 use native.Mathlib.Omega.{arith}
 use mathlib.Core.Bool.{Bool}
 use mathlib.Core.List.{List}
-use mathlib.Core.Path.{◌≡◌, refl, sym, ap, ◌∙◌}
+use mathlib.Core.Path.{◌≡◌, refl, sym, ap, subst, ◌∙◌}
 use lib.ListN.{length, take, drop}
 use lib.Seq.{sets}
+use Rattle.std.specs.Prelude.{Some}
 use Rattle.area.specs.Area.{repeats, climbs}
 use Rattle.encode.specs.declared.Kind.{Kind}
 use Rattle.rle.specs.declared.Spot.{Spot}
-use Rattle.rle.specs.Pieces.{step_runs, run_piece}
+use Rattle.rle.specs.Pieces.{run_piece, step_runs}
 use Rattle.source.specs.declared.Source.{Source}
 use Rattle.source.specs.Rows.{shown_by, text_of, text_by, size_by, piece_of, steps_of, sum_of, Writes}
 use Rattle.source.proofs.AtPlace.{sizes, part-size, text-shown}

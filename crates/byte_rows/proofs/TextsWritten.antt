@@ -1,6 +1,5 @@
 -- The loops that write bytes one after another, and their ends: what each row done has given stands in the areas, and there is room for the rows
 -- of the next piece. Assumes nothing.
-use Rattle.std.specs.Prelude.{Option, Some}
 use Prim.Native.Nat.{ℕ, ◌+◌, ◌-◌, ◌*◌, ◌≤◌, ◌<◌}
 use native.Mathlib.Omega.{arith}
 use mathlib.Core.Bool.{Bool}
@@ -8,12 +7,13 @@ use mathlib.Core.List.{List, ◌++◌, map}
 use mathlib.Core.Path.{◌≡◌, refl, ap, ◌∙◌}
 use lib.ListN.{length, replicate, length-map, length-append, length-replicate}
 use lib.Seq.{sets, length-sets}
+use Rattle.std.specs.Prelude.{Option, Some}
 use Rattle.area.specs.Area.{repeats, climbs}
 use Rattle.area.proofs.Laws.{sets-append}
 use Rattle.plain.specs.Plain.{joined, ends_from}
 use Rattle.rle.specs.declared.Spot.{Spot}
 use Rattle.rle.specs.declared.Piece.{Piece}
-use Rattle.rle.specs.Pieces.{piece_in, steps_in, step_runs, run_piece}
+use Rattle.rle.specs.Pieces.{run_piece, piece_in, steps_in, step_runs}
 use Rattle.source.specs.Rows.{StartsBy, sum_of, Writes}
 use Rattle.source.proofs.Folds.{sum-append, sum_same, joined-append, joined_same, length-joined, ends-append, ends_same, length-ends}
 use Rattle.source.proofs.Progress.{Progress, progress_start, progress-all, progress-on, progress-place, progress-runs}

@@ -1,5 +1,4 @@
 -- The values of rows of a fixed kind: of one item, and the step of the loop over runs. Assumes nothing.
-use Rattle.std.specs.Prelude.{Some}
 use Prim.Native.Nat.{ℕ, zero, suc, ◌+◌, ◌-◌, ◌*◌, ◌≤◌, ◌<◌}
 use native.Mathlib.Omega.{arith}
 use mathlib.Core.List.{List}
@@ -7,6 +6,7 @@ use mathlib.Core.Path.{◌≡◌, refl, sym, ap, ◌∙◌}
 use lib.IntN.{ℤ, pos}
 use lib.ListN.{length, replicate}
 use lib.Seq.{sets}
+use Rattle.std.specs.Prelude.{Some}
 use Rattle.encode.specs.Kinds.{width_of}
 use Rattle.encode.specs.declared.Kind.{Kind}
 use Rattle.encode.specs.declared.Kind.TheVariants.{Fixed}
@@ -16,11 +16,11 @@ use Rattle.plain.specs.Plain.{least_bytes, plain_row, fixed_at}
 use Rattle.plain.proofs.Items.{item_room}
 use Rattle.rle.specs.declared.Spot.{Spot}
 use Rattle.dict.specs.Dictionary.{entry_row}
+use Rattle.rle.specs.Pieces.{run_piece}
 use Rattle.source.specs.declared.Source.{Source}
 use Rattle.source.specs.Rows.{shown_by, int_of, int_by, piece_of}
 use Rattle.source.proofs.AtPlace.{int-shown}
 use Rattle.source.proofs.Filled.{Filled, filled_on}
-use Rattle.rle.specs.Pieces.{run_piece}
 
 -- ---- one item, counted from 1 on
 module _ (p : Primitive) (n : ℕ) (items : List ℕ) (slot : ℕ) where

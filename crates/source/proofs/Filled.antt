@@ -1,17 +1,17 @@
 -- The loops that write one element a row, values or flags: what each row done has given stands in the area, and there is room for the rows of the
 -- next piece. Assumes nothing.
-use Rattle.std.specs.Prelude.{Option, Some}
-use Prim.Native.Nat.{ℕ, zero, suc, ◌+◌, ◌-◌, ◌≤◌, ◌<◌}
+use Prim.Native.Nat.{ℕ, zero, suc, ◌+◌, ◌-◌, ◌*◌, ◌≤◌, ◌<◌}
 use native.Mathlib.Omega.{arith}
 use mathlib.Core.Bool.{Bool}
-use mathlib.Core.List.{List, map, map-append}
+use mathlib.Core.List.{List, ◌++◌, map, map-append}
 use mathlib.Core.Path.{◌≡◌, refl, ap, ◌∙◌}
 use lib.ListN.{length, replicate, length-map, length-append, length-replicate}
 use lib.Seq.{sets, length-sets}
+use Rattle.std.specs.Prelude.{Option, Some}
 use Rattle.area.proofs.Laws.{sets-append}
 use Rattle.rle.specs.declared.Spot.{Spot}
 use Rattle.rle.specs.declared.Piece.{Piece}
-use Rattle.rle.specs.Pieces.{piece_in, steps_in, step_runs, run_piece}
+use Rattle.rle.specs.Pieces.{run_piece, piece_in, steps_in, step_runs}
 use Rattle.rle.proofs.Folds.{map-replicate}
 use Rattle.source.specs.Rows.{StartsBy}
 use Rattle.source.proofs.Progress.{Progress, progress_start, progress-all, progress-on, progress-place}

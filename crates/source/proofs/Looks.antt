@@ -1,5 +1,4 @@
 -- The first look at a run: the returns of `seen_run`, and what its answer says. Assumes nothing.
-use Rattle.std.specs.Prelude.{Option, Some, None}
 use Prim.Native.Nat.{ℕ, ◌≤◌, ◌<◌}
 use native.Mathlib.Omega.{arith}
 use mathlib.Core.Bool.{Bool, true, false, cond}
@@ -10,11 +9,11 @@ use Rattle.std.specs.Prelude.{Option, Some, None}
 use borrow.Author.Tests.{eq-eqb, ne_eqb, eqb-true, eqb-false}
 use Rattle.rle.specs.declared.Spot.{Spot}
 use Rattle.rle.specs.declared.Piece.{Piece}
+use Rattle.rle.specs.Pieces.{run_piece}
 use Rattle.source.specs.declared.Source.{Source}
 use Rattle.source.specs.declared.Look.{Look}
 use Rattle.source.specs.Rows.{seen_by, sees_by, look, look_by}
 use Rattle.source.proofs.AtPlace.{sees-most}
-use Rattle.rle.specs.Pieces.{run_piece}
 
 module _ (s : Source) (marks : List ℕ) (i : ℕ) where
   -- ---- the returns of `seen_run`

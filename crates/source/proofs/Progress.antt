@@ -1,17 +1,17 @@
 -- The loops over runs: where reading stands after some of the rows, by the runs in which these lie. Assumes nothing.
-use Rattle.std.specs.Prelude.{Option, Some, None}
 use Prim.Native.Nat.{ℕ, ◌+◌, ◌-◌, ◌^◌, ◌≤◌, ◌<◌}
 use native.Mathlib.Omega.{arith}
 use mathlib.Core.Bool.{Bool, true, false}
 use mathlib.Core.List.{List, [], ◌++◌, append-nil}
 use mathlib.Core.Path.{◌≡◌, refl, sym, ap, subst, ◌∙◌}
 use lib.ListN.{length, replicate, length-append, length-replicate}
+use Rattle.std.specs.Prelude.{Option, Some, None}
 use Rattle.limits.specs.Limits.{MOST_ITEMS}
 use Rattle.plain.specs.Plain.{all_of}
 use Rattle.rle.specs.declared.Spot.{Spot}
 use Rattle.rle.specs.declared.Piece.{Piece}
 use Rattle.rle.specs.Stepping.{Steps, stuck, rows, before}
-use Rattle.rle.specs.Pieces.{piece_in, steps_in, Fine, step_runs, run_piece}
+use Rattle.rle.specs.Pieces.{run_piece, piece_in, steps_in, Fine, step_runs}
 use Rattle.rle.proofs.Steps.{before-nil, before-before, steps-zero, coded-room}
 use Rattle.rle.proofs.Pieces.{piece-stuck, piece-rows, piece-most, piece-less, piece_inside, piece-alone}
 use Rattle.source.specs.Rows.{StartsBy, Good, Writes}
@@ -134,7 +134,7 @@ progress-piece {coded} {runs} {counts} {n} {from} {at} {left} w l {good} r = go 
   where
     go : (p : Option Piece) → p ≡ piece_in coded runs counts at left → Good good at.run p
     go None e = absurd (progress-never w l e r.fine refl)
-    go (Some p) e = progress-good w l e refl r
+    go (Some x) e = progress-good w l e refl r
 
 -- what a good one tells
 module _ (good : ℕ → Bool) (i : ℕ) {q p : Option Piece} (g : Good good i q) (e : p ≡ q) where

@@ -75,7 +75,8 @@ look seen k t = record { seen = seen; rows = k; next = t }
 unfoldable pub look_by : Source → List ℕ → ℕ → Option Piece → Option Look
 look_by s marks i None = None
 look_by s marks i (Some p) =
-    cond (eqb p.rows 0) (Some (look 0 p.rows p.next)) (cond (sees_by s marks i) (Some (look (seen_by s.marks marks i) p.rows p.next)) None)
+    cond (eqb p.rows 0) (Some (look 0 p.rows p.next))
+    (cond (sees_by s marks i) (Some (look (seen_by s.marks marks i) p.rows p.next)) None)
 
 -- the parts are long enough for their items, bits and keys
 unfoldable pub MarkBytes : Marks → ℕ → ℕ → ℕ → Type 0

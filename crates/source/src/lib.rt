@@ -3,7 +3,7 @@
 // bytes and the flag of an item. `weigh`, `fixed_rows` and `byte_rows` have the loops.
 #![tactic(auto)]
 
-ghost use Rattle.std.specs.Prelude.{◌≡◌, true, ◌+◌, ◌-◌, ◌<◌, ◌≤◌, length, take, drop, replicate};
+ghost use Rattle.std.specs.Prelude.{◌≡◌, true, ◌+◌, ◌-◌, ◌<◌, ◌≤◌, length, take, drop, replicate, Some};
 ghost use Rattle.std.proofs.lemmas.List.Edits.{sets};
 ghost use Rattle.limits.specs.Limits.{MOST_ITEMS};
 ghost use Rattle.encode.specs.Kinds.{blob};
@@ -165,7 +165,8 @@ pub fn shown_run(
         × (0 < result.rows → result.slot ≡ shown_by s.marks marks.now at.run) × (result.slot ≤ s.items)
         × (0 < result.slot → ends_good s.kind s.items items.now (result.slot - 1) ≡ true) }
 {
-    let Some(piece) = rle::take_piece(s.coded, counts, s.runs, at, left) else {
+    let taken = rle::take_piece(s.coded, counts, s.runs, at, left);
+    let Some(piece) = taken else {
         return ShownRun {
             slot: 0,
             rows: 0,

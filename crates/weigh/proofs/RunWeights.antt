@@ -1,5 +1,4 @@
 -- The step of the loops that weigh: what the item of a run that is looked at tells of the run's rows, whatever the kind. Assumes nothing.
-use Rattle.std.specs.Prelude.{Option, Some, None}
 use Prim.Native.Nat.{ℕ, zero, suc, ◌+◌, ◌-◌, ◌*◌, ◌≤◌, ◌<◌}
 use native.Mathlib.Nat.{mul-zero, min-le_right}
 use native.Mathlib.Omega.{arith}
@@ -17,13 +16,13 @@ use Rattle.plain.specs.Plain.{end_at, start_at, blob_at, ends_good, plain_row}
 use Rattle.rle.specs.declared.Spot.{Spot}
 use Rattle.rle.specs.declared.Piece.{Piece}
 use Rattle.dict.specs.Dictionary.{entry_row, entry_good}
+use Rattle.rle.specs.Pieces.{run_piece}
 use Rattle.source.specs.declared.Source.{Source}
 use Rattle.source.specs.declared.Look.{Look}
 use Rattle.source.specs.Rows.{shown_by, seen_by, text_of, size_by, good_by, piece_of, steps_of, look_by, capped, weight_of, weighed_by, Texts}
 use Rattle.source.proofs.AtPlace.{part_length, entry-there, entry-some, text-none, text-some, text-shown, sizes, unseen-bad, seen-good}
 use Rattle.source.proofs.Looks.{Tells, tells}
 use Rattle.weigh.proofs.Weights.{Weighing, capped_small, weighing-stuck, weighing-broken, weighing-on}
-use Rattle.rle.specs.Pieces.{run_piece}
 
 -- ---- an item that is looked at, counted from 1 on
 module _ (kind : Kind) (n : ℕ) (part : List ℕ) where
@@ -117,7 +116,7 @@ module _ (s : Source) (marks items counts : List ℕ) (n : ℕ) (from : Spot) wh
         go : (p : Option Piece) → p ≡ piece_of s counts at left → Tells s marks at.run p None
             → None ≡ weighed_by (good_by s marks items) (size_by s marks items) (steps_of s counts n from)
         go None g h = weighing-stuck w l g refl
-        go (Some p) g h = weighing-broken w l g refl h.0 (unseen-bad s marks at.run items h.1)
+        go (Some x) g h = weighing-broken w l g refl h.0 (unseen-bad s marks at.run items h.1)
 
     module _ {x : Look} (q : Some x ≡ look_by s marks at.run (piece_of s counts at left)) where
       abbrev seen : ℕ

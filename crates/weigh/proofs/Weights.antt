@@ -1,5 +1,4 @@
 -- The weight of rows, run by run: the sum is capped on the way, and the first row that isn't good ends it. Assumes nothing.
-use Rattle.std.specs.Prelude.{Option, Some, None}
 use Prim.Native.Nat.{ℕ, zero, suc, ◌+◌, ◌-◌, ◌*◌, ◌^◌, ◌≤◌, ◌<◌}
 use native.Mathlib.Nat.{add-zero, zero-mul, mul-le-mul_left}
 use native.Mathlib.Omega.{arith}
@@ -8,7 +7,7 @@ use mathlib.Core.List.{List, ◌++◌}
 use mathlib.Core.Logic.{⊎_elim}
 use mathlib.Core.Path.{◌≡◌, refl, sym, ◌∙◌}
 use lib.ListN.{replicate}
-use Rattle.std.specs.Prelude.{Some, None}
+use Rattle.std.specs.Prelude.{Some, None, Option}
 use borrow.Author.Tests.{lt-ltb, le-ltb}
 use Rattle.area.proofs.Laws.{lt-or-ge}
 use Rattle.limits.specs.Limits.{MOST_BYTES, MOST_GIVEN}
@@ -16,7 +15,7 @@ use Rattle.plain.specs.Plain.{all_of}
 use Rattle.rle.specs.declared.Spot.{Spot}
 use Rattle.rle.specs.declared.Piece.{Piece}
 use Rattle.rle.specs.Stepping.{Steps, stuck, rows, before}
-use Rattle.rle.specs.Pieces.{piece_in, steps_in, run_piece}
+use Rattle.rle.specs.Pieces.{run_piece, piece_in, steps_in}
 use Rattle.source.specs.Rows.{StartsBy, capped, sum_of, weighed, weighed_by}
 use Rattle.source.proofs.Folds.{all_append, all_same, all-bad, sum-append, sum_same}
 use Rattle.source.proofs.Progress.{Progress, progress_start, progress-end, progress-stuck, progress-on, whole-on}

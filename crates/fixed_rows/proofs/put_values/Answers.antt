@@ -1,4 +1,5 @@
 -- `fixed_rows::put_values` meets its contract: the law of the loops over runs that write an element a row, at the values. Assumes nothing.
+use Prim.Native.Nat.{◌-◌}
 use mathlib.Core.Path.{refl}
 use borrow.Author.Rules.{rules}
 use native.Mathlib.Omega.{arith}
