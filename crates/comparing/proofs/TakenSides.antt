@@ -23,8 +23,7 @@ use Rattle.block.specs.Reading.{reader_at, head_in, opened_by, opened, opening_o
 use Rattle.reading_laws.proofs.RowsLeft.{start}
 use Rattle.descriptor.specs.declared.Descriptor.{Descriptor}
 use Rattle.descriptor.specs.Descriptor.{described_number, described_opened}
-use Rattle.comparing.specs.declared.sides.Side.{Side}
-use Rattle.comparing.specs.declared.sides.Side.TheVariants.{Whole, Refused}
+use Rattle.std.specs.Prelude.{Result, Ok, Err}
 use Rattle.comparing.specs.Taken.{side_in, side_of, Opens}
 
 -- an opening by a number and a zero bit
@@ -58,10 +57,10 @@ module _ (d : Descriptor) (b : List ℕ) where
     reader-told z = ap (λ (x : Opening). x.reader) answer ∙ by-reader (eqb d.zero 0) (open_number d.kind d.encoding d.width d.rows b) _ z
 
     -- ---- refused
-    pub side-refused : 0 < o.number → Refused o.number ≡ side_of d b
+    pub side-refused : 0 < o.number → Err o.number ≡ side_of d b
     side-refused h = go o.number h number-told
       where
-        go : (m : ℕ) → 0 < m → m ≡ described_number d b → Refused m ≡ side_of d b
+        go : (m : ℕ) → 0 < m → m ≡ described_number d b → Err m ≡ side_of d b
         go zero h q = absurd (omega arith)
         go (suc m) h q = unfold side_in in rw (← q)
 
@@ -70,7 +69,7 @@ module _ (d : Descriptor) (b : List ℕ) where
       zero-told : described_number d b ≡ 0
       zero-told = omega (arith, number-told)
 
-      pub side-unknown : {c : Column} → c ≡ column → c ≡ Unknown → Refused COLUMN ≡ side_of d b
+      pub side-unknown : {c : Column} → c ≡ column → c ≡ Unknown → Err COLUMN ≡ side_of d b
       unfolding side_in
       side-unknown p q = rw (zero-told, ← p, q)
 
@@ -86,9 +85,9 @@ module _ (d : Descriptor) (b : List ℕ) where
         pub side_right : Right k e o.reader.rows o.reader.len o.reader.head 0
         side_right = rw reader-is (start k d.rows b d.kind d.encoding d.width e (sym p ∙ q) sound).right.numbers
 
-        pub side-whole : {x : Parts} → x ≡ parts_of k e o.reader.rows o.reader.len o.reader.head → Whole x ≡ side_of d b
+        pub side-whole : {x : Parts} → x ≡ parts_of k e o.reader.rows o.reader.len o.reader.head → Ok x ≡ side_of d b
         unfolding side_in
-        side-whole h = rw (zero-told, sym p ∙ q) (ap Whole (rw reader-is at h))
+        side-whole h = rw (zero-told, sym p ∙ q) (ap Ok (rw reader-is at h))
 
 -- ---- what a side that was taken tells
 module _ (d : Descriptor) (b : List ℕ) where
@@ -103,10 +102,10 @@ module _ (d : Descriptor) (b : List ℕ) where
   unfolding column_number
   never-unknown e z = let n : column_number Unknown d.rows b ≡ 0 = rw e at (zero_number z) in omega (arith, n)
 
-  pub taken-whole : {s : Side} {p : Parts} → s ≡ side_of d b → s ≡ Whole p → Opens d b p
+  pub taken-whole : {s : Result Parts ℕ} {p : Parts} → s ≡ side_of d b → s ≡ Ok p → Opens d b p
   taken-whole {s} {p} e q = go (described_number d b) refl named refl (sym e ∙ q)
     where
-      go : (m : ℕ) → described_number d b ≡ m → (c : Column) → named ≡ c → side_in m c d.rows b ≡ Whole p → Opens d b p
+      go : (m : ℕ) → described_number d b ≡ m → (c : Column) → named ≡ c → side_in m c d.rows b ≡ Ok p → Opens d b p
       go (suc m) z c n h = let o : ◌≡◌ {A = ℕ} 0 1 = unfold side_in in cc in absurd (omega arith)
       go zero z Unknown n h = absurd (never-unknown n z)
       go zero z (Of k f) n h = record {
@@ -118,10 +117,10 @@ module _ (d : Descriptor) (b : List ℕ) where
         parts = unfold side_in in cc;
       }
 
-  pub taken_refused : {s : Side} {e : ℕ} → s ≡ side_of d b → s ≡ Refused e → (described_number d b ≡ e) × (0 < e)
+  pub taken_refused : {s : Result Parts ℕ} {e : ℕ} → s ≡ side_of d b → s ≡ Err e → (described_number d b ≡ e) × (0 < e)
   taken_refused {s} {e} p q = go (described_number d b) refl named refl (sym p ∙ q)
     where
-      go : (m : ℕ) → described_number d b ≡ m → (c : Column) → named ≡ c → side_in m c d.rows b ≡ Refused e → (described_number d b ≡ e) × (0 < e)
+      go : (m : ℕ) → described_number d b ≡ m → (c : Column) → named ≡ c → side_in m c d.rows b ≡ Err e → (described_number d b ≡ e) × (0 < e)
       go (suc m) z c n h = let o : suc m ≡ e = unfold side_in in cc in (z ∙ o, omega (arith, o))
       go zero z Unknown n h = absurd (never-unknown n z)
       go zero z (Of k f) n h = let o : ◌≡◌ {A = ℕ} 0 1 = unfold side_in in cc in absurd (omega arith)

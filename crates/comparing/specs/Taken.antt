@@ -1,5 +1,5 @@
 -- For the code: a block that was opened, taken apart. Assumes nothing.
-use Rattle.std.specs.Prelude.{ℕ, zero, suc, List, ◌≡◌, length}
+use Rattle.std.specs.Prelude.{ℕ, zero, suc, List, ◌≡◌, length, Result, Ok, Err}
 use Rattle.limits.specs.Refusals.{COLUMN}
 use Rattle.encode.specs.declared.Kind.{Kind}
 use Rattle.format.specs.declared.Encoding.{Encoding}
@@ -11,15 +11,13 @@ use Rattle.anatomy.specs.declared.Parts.{Parts}
 use Rattle.anatomy.specs.Parts.{parts_of}
 use Rattle.descriptor.specs.declared.Descriptor.{Descriptor}
 use Rattle.descriptor.specs.Descriptor.{described_number}
-use Rattle.comparing.specs.declared.sides.Side.{Side}
-use Rattle.comparing.specs.declared.sides.Side.TheVariants.{Whole, Refused}
 
-unfoldable pub side_in : ℕ → Column → ℕ → List ℕ → Side
-side_in (suc m) c n b = Refused (suc m)
-side_in zero Unknown n b = Refused COLUMN
-side_in zero (Of k e) n b = Whole (parts_of k e n (length b) (head_of e b))
+unfoldable pub side_in : ℕ → Column → ℕ → List ℕ → Result Parts ℕ
+side_in (suc m) c n b = Err (suc m)
+side_in zero Unknown n b = Err COLUMN
+side_in zero (Of k e) n b = Ok (parts_of k e n (length b) (head_of e b))
 
-abbrev pub side_of : Descriptor → List ℕ → Side
+abbrev pub side_of : Descriptor → List ℕ → Result Parts ℕ
 side_of d b = side_in (described_number d b) (column_of d.kind d.encoding d.width) d.rows b
 
 -- these are the parts of a sound block

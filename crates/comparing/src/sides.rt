@@ -7,25 +7,19 @@ use descriptor::Descriptor;
 use format::Column;
 use limits::refusal;
 
-// The parts of a sound block, or its refusal.
-#[derive(Clone, Copy)]
-pub enum Side {
-    Whole(Parts),
-    Refused(u8),
-}
-
-pub fn take_side(d: Descriptor, block: &[u8]) -> Side
+// The parts of a sound block, or the number of its refusal.
+pub fn take_side(d: Descriptor, block: &[u8]) -> Result<Parts, u8>
     ensures { result ≡ side_of d block.now }
 {
     let opening = descriptor::open_by_number(d, block);
     if opening.number != 0 {
-        return Side::Refused(opening.number);
+        return Err(opening.number);
     }
     let column = format::column_of(d.kind, d.encoding, d.width);
     let Column::Of { kind, encoding } = column else {
-        return Side::Refused(refusal::COLUMN);
+        return Err(refusal::COLUMN);
     };
     let reader = opening.reader;
     let head = reader.head;
-    Side::Whole(anatomy::take_apart(kind, encoding, reader.rows, reader.len, head))
+    Ok(anatomy::take_apart(kind, encoding, reader.rows, reader.len, head))
 }

@@ -17,15 +17,21 @@ walk_bools-requires c =
     (omega (arith, h.1), omega (arith, h.2))
 
 pub walk_words-requires : goal.walk_words-requires
-walk_words-requires c = let h = laws.words-asked c.args.p 2 (sym c.shape-shape.ensures) (ap wide_as c.in-Low2.is) c.args.n c.args.a.now c.args.b.now c.requires.0 c.requires.1 c.requires.2 in (refl, h.0, h.1, h.2)
+walk_words-requires c =
+    let h = laws.words-asked c.args.p 2 (sym c.shape-shape.ensures) (ap wide_as c.in-Low2.is) c.args.n c.args.a.now c.args.b.now c.requires.0 c.requires.1 c.requires.2 in
+    (refl, h.0, h.1, h.2)
 
 pub walk_words-requires-in-Low4 : goal.walk_words-requires-in-Low4
 walk_words-requires-in-Low4 c =
-    let h = laws.words-asked c.args.p 4 (sym c.shape-shape.ensures) (⊎_elim (λ e. ap wide_as e) (λ e. ap wide_as e) c.in-Low4.is) c.args.n c.args.a.now c.args.b.now c.requires.0 c.requires.1 c.requires.2 in (refl, h.0, h.1, h.2)
+    let h = laws.words-asked c.args.p 4 (sym c.shape-shape.ensures) (⊎_elim (λ e. ap wide_as e) (λ e. ap wide_as e) c.in-Low4.is)
+    c.args.n c.args.a.now c.args.b.now c.requires.0 c.requires.1 c.requires.2 in
+    (refl, h.0, h.1, h.2)
 
 pub walk_words-requires-in-Low8 : goal.walk_words-requires-in-Low8
 walk_words-requires-in-Low8 c =
-    let h = laws.words-asked c.args.p 8 (sym c.shape-shape.ensures) (⊎_elim (λ e. ap wide_as e) (λ e. ap wide_as e) c.in-Low8.is) c.args.n c.args.a.now c.args.b.now c.requires.0 c.requires.1 c.requires.2 in (refl, h.0, h.1, h.2)
+    let h = laws.words-asked c.args.p 8 (sym c.shape-shape.ensures) (⊎_elim (λ e. ap wide_as e) (λ e. ap wide_as e) c.in-Low8.is)
+    c.args.n c.args.a.now c.args.b.now c.requires.0 c.requires.1 c.requires.2 in
+    (refl, h.0, h.1, h.2)
 
 pub returns-in-Bool : goal.returns-in-Bool
 returns-in-Bool c =
@@ -41,10 +47,12 @@ returns-in-Low2 c =
 
 pub returns-in-Low4 : goal.returns-in-Low4
 returns-in-Low4 c =
-    laws.words-told c.args.p 4 (sym c.shape-shape.ensures) (⊎_elim (λ e. ap wide_as e) (λ e. ap wide_as e) c.in-Low4.is) c.args.n c.args.a.now c.args.b.now (lit< tt)
+    laws.words-told c.args.p 4 (sym c.shape-shape.ensures) (⊎_elim (λ e. ap wide_as e) (λ e. ap wide_as e) c.in-Low4.is)
+    c.args.n c.args.a.now c.args.b.now (lit< tt)
     (λ j. omega (arith, c.type_inv.a j)) (λ j. omega (arith, c.type_inv.b j)) c.requires.1 c.requires.2 c.walk_words-in-Low4.ensures
 
 pub returns-in-Low8 : goal.returns-in-Low8
 returns-in-Low8 c =
-    laws.words-told c.args.p 8 (sym c.shape-shape.ensures) (⊎_elim (λ e. ap wide_as e) (λ e. ap wide_as e) c.in-Low8.is) c.args.n c.args.a.now c.args.b.now (lit< tt)
+    laws.words-told c.args.p 8 (sym c.shape-shape.ensures) (⊎_elim (λ e. ap wide_as e) (λ e. ap wide_as e) c.in-Low8.is)
+    c.args.n c.args.a.now c.args.b.now (lit< tt)
     (λ j. omega (arith, c.type_inv.a j)) (λ j. omega (arith, c.type_inv.b j)) c.requires.1 c.requires.2 c.walk_words-in-Low8.ensures
