@@ -43,7 +43,7 @@ pub fn compare(
     }
     match take_side(a, first) {
         Ok(p) => compare_to(a, p, first, b, second, firsts, lasts),
-        Err(number) => refused(number),
+        Err(refusal) => refused(u8::from(refusal)),
     }
 }
 
@@ -64,7 +64,7 @@ fn compare_to(
 {
     match take_side(b, second) {
         Ok(q) => put_ranges(a, p, first, b, q, second, firsts, lasts),
-        Err(number) => refused(number),
+        Err(refusal) => refused(u8::from(refusal)),
     }
 }
 
