@@ -36,7 +36,10 @@ unfolding with_encoding
 kind-by None n {k} {e} q = absurd (never-of q)
 kind-by (Some k') n {k} {e} q = ap Some (go (eqb n 0) (eqb n 1) (eqb n 2) (eqb n 3) (eqb n 4) q)
   where
-    go : (a b c d f : Bool) → cond a (Some (column k' Plain)) (cond b (Some (column k' Nullable)) (cond c (Some (column k' RunLength)) (cond d (Some (column k' RunLengthNullable)) (cond f (Some (column k' Dictionary)) None)))) ≡ Some (column k e) → k' ≡ k
+    go : (a b c d f : Bool)
+        → cond a (Some (column k' Plain)) (cond b (Some (column k' Nullable)) (cond c (Some (column k' RunLength))
+        (cond d (Some (column k' RunLengthNullable)) (cond f (Some (column k' Dictionary)) None)))) ≡ Some (column k e)
+        → k' ≡ k
     go true b c d f q = of-kind q
     go false true c d f q = of-kind q
     go false false true d f q = of-kind q

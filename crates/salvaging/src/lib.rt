@@ -46,7 +46,7 @@ pub fn salvage(
 {
     match damaged::take_damaged(d, block) {
         Ok(p) => salvage_whole(d, p, block, firsts, lasts, out),
-        Err(number) => refused(number),
+        Err(refusal) => refused(u8::from(refusal)),
     }
 }
 
