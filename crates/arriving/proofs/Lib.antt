@@ -1,3 +1,2 @@
-pub mod Refused
 pub mod Stages
 pub mod Beginnings

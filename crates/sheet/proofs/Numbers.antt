@@ -14,6 +14,7 @@ use Rattle.limits.specs.Refusals.{LIMIT, NO_COLUMN, SHEET, OUTSIDE, refusal_numb
 use Rattle.plain.specs.Rules.{◌if◌, first_of}
 use Rattle.plain.proofs.Rules.{kept, whole}
 use Rattle.sheet.specs.Sheet.{columns_in, directory_end, entry_at, offset_in, length_in, sheet_number}
+use Rattle.limits.proofs.Refused.{refusal-above}
 
 module _ (f : List ℕ) (j : ℕ) where
   -- ---- the tests, in order
@@ -121,29 +122,8 @@ none-refuses f j z =
     }
 
 -- ---- what the outcome of `check` tells
-some-number : (r : Refusal) → 0 < refusal_number r
-some-number Refusal.Column = omega arith
-some-number Refusal.Item = omega arith
-some-number Refusal.Limit = omega arith
-some-number Refusal.Room = omega arith
-some-number Refusal.NoRows = omega arith
-some-number Refusal.TooFar = omega arith
-some-number Refusal.Disagree = omega arith
-some-number Refusal.Cut = omega arith
-some-number Refusal.Length = omega arith
-some-number Refusal.Varint = omega arith
-some-number Refusal.Counts = omega arith
-some-number Refusal.Ends = omega arith
-some-number Refusal.Key = omega arith
-some-number Refusal.Sum = omega arith
-some-number Refusal.Text = omega arith
-some-number Refusal.NoColumn = omega arith
-some-number Refusal.Sheet = omega arith
-some-number Refusal.Outside = omega arith
-some-number Refusal.Unlike = omega arith
-
 pub refused-told : {A : Type 0} {x : Result A Refusal} {r : Refusal} (n m : ℕ) → number_in x ≡ m → x ≡ Err r → n ≡ refusal_number r → (n ≡ m) × (0 < n)
-refused-told {r = r} n m told e q = (q ∙ (rw e at told), omega (arith, q, some-number r))
+refused-told {r = r} n m told e q = (q ∙ (rw e at told), omega (arith, q, refusal-above r))
 
 pub done-told : {A : Type 0} {x : Result A Refusal} {u : A} {m : ℕ} → number_in x ≡ m → x ≡ Ok u → m ≡ 0
 done-told told e = sym (rw e at told)
@@ -154,4 +134,4 @@ none-told (Err r) told e = absurd (false≢true (sym e))
 
 pub some-told : {A : Type 0} (x : Result A Refusal) {m : ℕ} → number_in x ≡ m → is_err x ≡ true → 0 < m
 some-told (Ok u) told e = absurd (false≢true e)
-some-told (Err r) told e = omega (arith, told, some-number r)
+some-told (Err r) told e = omega (arith, told, refusal-above r)

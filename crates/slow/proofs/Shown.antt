@@ -26,7 +26,7 @@ use Rattle.descriptor.specs.declared.Descriptor.{Descriptor}
 use Rattle.descriptor.specs.Descriptor.{described_number}
 use Rattle.slow_answer.specs.Slow.{Shown, answer_of, refused_row, shown_in, shown_of, shown_by, row_shown}
 use Rattle.slow_plain.specs.Items.{slot_of}
-use Rattle.slow_plain.proofs.Refused.{refusal-some}
+use Rattle.limits.proofs.Refused.{refusal-some}
 use Rattle.slow_giving.specs.Giving.{Gives}
 use Rattle.slow_places.specs.declared.Place.{Place}
 use Rattle.slow_places.specs.Places.{Opened, Shows, items_at}

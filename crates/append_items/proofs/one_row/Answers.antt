@@ -11,7 +11,8 @@ use Rattle.limits.specs.declared.refusal.Refusal.{Refusal}
 use Rattle.limits.specs.Refusals.{refusal_number}
 use Rattle.needs.specs.declared.Counted.{Counted}
 use Rattle.step.specs.Counting.{next_of, answered}
-use Rattle.step.proofs.Answered.{not_done, passed_on}
+use Rattle.limits.proofs.Refused.{refusal-some}
+use Rattle.step.proofs.Answered.{passed_on}
 use Rattle.plain.specs.Rows.{Row, row_of}
 use Rattle.needs.specs.Tests.{rows_by}
 use Rattle.needs.proofs.Encodings.{rows-stored, rows-flagged, rows-coded, rows-keyed}
@@ -41,7 +42,7 @@ returns-in_err-next c =
     (row-answer a.kind a.nullable a.c (room_of (areas)) (cond a.present 1 0) _ c.in_err-next.ensures) in
     let a = c.args in
     ap (λ (x : Result Counted Refusal). added_to (answered a.c x) (areas)) (passed_on _ c.from_residual.ensures.1)
-    ∙ laws.count-refused a.kind (rows_by a.nullable) a.c (areas) (row) c.requires.0 (counted) (not_done _)
+    ∙ laws.count-refused a.kind (rows_by a.nullable) a.c (areas) (row) c.requires.0 (counted) (refusal-some _)
 
 pub overflow_add-c : goal.overflow_add-c
 unfolding room_of

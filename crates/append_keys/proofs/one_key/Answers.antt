@@ -10,7 +10,8 @@ use Rattle.limits.specs.declared.refusal.Refusal.{Refusal}
 use Rattle.limits.specs.Refusals.{refusal_number}
 use Rattle.needs.specs.declared.Counted.{Counted}
 use Rattle.step.specs.Counting.{next_of, answered}
-use Rattle.step.proofs.Answered.{not_done, passed_on}
+use Rattle.limits.proofs.Refused.{refusal-some}
+use Rattle.step.proofs.Answered.{passed_on}
 use Rattle.plain.specs.Rows.{Row, row_of}
 use Rattle.format.specs.declared.Encoding.TheVariants.{Dictionary}
 use Rattle.needs.proofs.Encodings.{keys-stored, keys-flagged, keys-coded, keys-keyed}
@@ -38,7 +39,7 @@ returns-in_err-next c =
     laws.counted-row a.kind Dictionary a.c (room_of (areas)) a.present a.value a.item.now a.stored a.joins c.requires.1 c.in_err-next.ensures in
     let a = c.args in
     ap (λ (x : Result Counted Refusal). added_to (answered a.c x) (areas)) (passed_on _ c.from_residual.ensures.1)
-    ∙ laws.count-refused a.kind Dictionary a.c (areas) (row) c.requires.0 (counted) (not_done _)
+    ∙ laws.count-refused a.kind Dictionary a.c (areas) (row) c.requires.0 (counted) (refusal-some _)
 
 pub write_stored-requires : goal.write_stored-requires
 unfolding room_of

@@ -4,7 +4,8 @@ use mathlib.Core.Bool.{cond}
 use mathlib.Core.Path.{refl, ap, ◌∙◌}
 use Rattle.needs.specs.declared.Counted.{Counted}
 use Rattle.step.specs.Counting.{grown, answered}
-use Rattle.step.proofs.Answered.{not_done, passed_on}
+use Rattle.limits.proofs.Refused.{refusal-some}
+use Rattle.step.proofs.Answered.{passed_on}
 use Rattle.copies.specs.Stretch.{grown_times}
 use Rattle.append_times.proofs.Whole as laws
 use Rattle.append_times.proofs.all_taken.Goals as goal
@@ -13,7 +14,7 @@ pub returns-in_err-all : goal.returns-in_err-all
 returns-in_err-all c =
     let all : Counted = let a = c.args in grown_times a.e (cond a.present 1 0) a.len (a.n - 1) (grown a.e a.c (cond a.present 1 0) a.len a.stored a.joins) in
     let a = c.args in
-    ap (answered a.c) (passed_on _ c.from_residual.ensures.1) ∙ laws.past-limits a.kind a.e a.c a.room (all) c.in_err-all.ensures (not_done _)
+    ap (answered a.c) (passed_on _ c.from_residual.ensures.1) ∙ laws.past-limits a.kind a.e a.c a.room (all) c.in_err-all.ensures (refusal-some _)
 
 pub is_short-requires : goal.is_short-requires
 is_short-requires c =

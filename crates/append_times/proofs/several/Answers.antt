@@ -10,7 +10,8 @@ use Rattle.limits.specs.declared.refusal.Refusal.{Refusal}
 use Rattle.limits.specs.Refusals.{refusal_number}
 use Rattle.needs.specs.declared.Counted.{Counted}
 use Rattle.step.specs.Counting.{next_of, answered, counted_by}
-use Rattle.step.proofs.Answered.{not_done, passed_on}
+use Rattle.limits.proofs.Refused.{refusal-some}
+use Rattle.step.proofs.Answered.{passed_on}
 use Rattle.append.specs.Appending.{Lent, lent, room_of, added_to}
 use Rattle.copies.specs.Copies.{stage}
 use Rattle.append_times.proofs.Whole as laws
@@ -41,7 +42,7 @@ returns-in_err-all_taken c =
     laws.counted-row a.kind a.e a.c (room_of (areas)) a.n a.present a.value a.item.now a.stored a.joins c.requires.1 c.in_err-all_taken.ensures in
     let a = c.args in
     ap (λ (x : Result Counted Refusal). added_to (answered a.c x) (areas)) (passed_on _ c.from_residual.ensures.1)
-    ∙ laws.refused-told a.kind a.e a.c (areas) a.n (row) c.requires.0 c.if-n-eq0.false (answer) (not_done _)
+    ∙ laws.refused-told a.kind a.e a.c (areas) a.n (row) c.requires.0 c.if-n-eq0.false (answer) (refusal-some _)
 
 pub write_all-requires : goal.write_all-requires
 unfolding room_of

@@ -3,7 +3,7 @@ use mathlib.Core.Path.{refl}
 use native.Mathlib.Omega.{arith}
 use Rattle.encode.specs.Kinds.{layout_of}
 use Rattle.plain.proofs.Numbers.{bytes_small}
-use Rattle.arriving.proofs.Refused.{refusal-some}
+use Rattle.limits.proofs.Refused.{refusal-some}
 use Rattle.arriving.proofs.Stages as laws
 use Rattle.arriving.proofs.plain_from.Goals as goal
 

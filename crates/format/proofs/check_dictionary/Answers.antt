@@ -2,7 +2,7 @@
 use Rattle.std.proofs.lemmas.Result.{err_from_is_err_and}
 use mathlib.Core.Path.{refl}
 use native.Mathlib.Omega.{arith}
-use Rattle.limits.proofs.Refused.{refused}
+use Rattle.limits.proofs.Refused.{refusal-some}
 use Rattle.format.proofs.Dictionaries as laws
 use Rattle.format.proofs.check_dictionary.Goals as goal
 
@@ -26,7 +26,7 @@ pub returns-in_err-check : goal.returns-in_err-check
 returns-in_err-check c =
     let p = err_from_is_err_and c.from_residual-in_err-check.result c.from_residual-in_err-check.ensures.1 in
     rw (p.1, p.2)
-    (laws.entries-wrong _ _ _ _ (omega arith) c.entries_in-entries.ensures.0 (omega arith) c.key_len-keys.ensures (omega arith) c.in_ok-head.ensures refl c.in_err-check.ensures (refused _))
+    (laws.entries-wrong _ _ _ _ (omega arith) c.entries_in-entries.ensures.0 (omega arith) c.key_len-keys.ensures (omega arith) c.in_ok-head.ensures refl c.in_err-check.ensures (refusal-some _))
 
 pub returns : goal.returns
 returns c =

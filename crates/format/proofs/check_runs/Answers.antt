@@ -3,7 +3,7 @@ use Rattle.std.specs.Prelude.{Ok}
 use Rattle.std.proofs.lemmas.Result.{err_from_is_err_and}
 use mathlib.Core.Path.{refl, ap, ◌∙◌}
 use native.Mathlib.Omega.{arith}
-use Rattle.limits.proofs.Refused.{refused}
+use Rattle.limits.proofs.Refused.{refusal-some}
 use Rattle.format.proofs.RunBlocks as laws
 use Rattle.format.proofs.check_runs.Goals as goal
 
@@ -33,7 +33,7 @@ pub returns-in_err-check_inner : goal.returns-in_err-check_inner
 returns-in_err-check_inner c =
     let p = err_from_is_err_and c.from_residual-in_err-check_inner.result c.from_residual-in_err-check_inner.ensures.1 in
     rw (p.1, p.2)
-    (laws.inner-wrong _ _ _ c.in_ok-found.ensures (ap Ok c.in-Some.is) c.in_err-check_inner.ensures (refused _))
+    (laws.inner-wrong _ _ _ c.in_ok-found.ensures (ap Ok c.in-Some.is) c.in_err-check_inner.ensures (refusal-some _))
 
 pub returns : goal.returns
 returns c = laws.inner-right _ _ _ c.in_ok-found.ensures (ap Ok c.in-Some.is) c.in_ok-check_inner.ensures refl

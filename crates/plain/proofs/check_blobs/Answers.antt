@@ -6,7 +6,7 @@ use Rattle.limits.specs.Refusals.{CUT}
 use Rattle.encode.specs.Kinds.{blob}
 use Rattle.plain.specs.Plain.{lengths_number}
 use Rattle.std.proofs.lemmas.Result.{err_from_is_err_and}
-use Rattle.limits.proofs.Refused.{refused}
+use Rattle.limits.proofs.Refused.{refusal-some}
 use Rattle.plain.proofs.Ends.{ends-missing}
 use Rattle.plain.proofs.Numbers.{ends-broken, bytes-open, strings-open, strings-broken}
 use Rattle.plain.proofs.check_blobs.Goals as goal
@@ -20,7 +20,7 @@ pub returns-in_err-check_ends : goal.returns-in_err-check_ends
 returns-in_err-check_ends c =
     let a = c.args in
     let p = err_from_is_err_and c.from_residual.result c.from_residual.ensures.1 in
-    rw (p.1, p.2) (ends-broken a.text a.n a.s.now c.in_err-check_ends.ensures (refused _))
+    rw (p.1, p.2) (ends-broken a.text a.n a.s.now c.in_err-check_ends.ensures (refusal-some _))
 
 pub strings_are_text-requires : goal.strings_are_text-requires
 strings_are_text-requires c =

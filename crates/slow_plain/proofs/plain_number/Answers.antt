@@ -2,7 +2,8 @@
 use mathlib.Core.Path.{sym, ◌∙◌}
 use native.Mathlib.Omega.{arith}
 use Rattle.plain.proofs.Numbers.{lengths-broken, all-text, not-text}
-use Rattle.slow_plain.proofs.Refused.{refusal-some, passed-on}
+use Rattle.limits.proofs.Refused.{refusal-some}
+use Rattle.slow_plain.proofs.Refused.{passed-on}
 use Rattle.slow_plain.proofs.plain_number.Goals as goal
 
 pub returns-in_err-lengths_number : goal.returns-in_err-lengths_number

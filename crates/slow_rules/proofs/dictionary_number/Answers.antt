@@ -5,7 +5,8 @@ use mathlib.Core.Bool.{true}
 use Rattle.dict.specs.Dictionary.{key_length, entries_in}
 use Rattle.format.proofs.Dictionaries as heads
 use Rattle.slow_numbers.specs.Numbers.{order_by}
-use Rattle.slow_plain.proofs.Refused.{refusal-some, passed-on}
+use Rattle.limits.proofs.Refused.{refusal-some}
+use Rattle.slow_plain.proofs.Refused.{passed-on}
 use Rattle.slow_rules.proofs.Dictionaries as laws
 use Rattle.slow_rules.proofs.dictionary_number.Goals as goal
 

@@ -3,7 +3,8 @@ use mathlib.Core.Path.{refl, ◌∙◌}
 use native.Mathlib.Omega.{arith}
 use Rattle.slow_numbers.specs.Numbers.{order_by}
 use Rattle.rle.proofs.Opening as heads
-use Rattle.slow_plain.proofs.Refused.{refusal-some, passed-on}
+use Rattle.limits.proofs.Refused.{refusal-some}
+use Rattle.slow_plain.proofs.Refused.{passed-on}
 use Rattle.slow_rules.proofs.Runs as laws
 use Rattle.slow_rules.proofs.run_length_number.Goals as goal
 

@@ -1,7 +1,7 @@
 -- `builder::Builder::append_times` meets its contract: that of the append over what is counted. Assumes nothing.
 use Prim.Native.Nat.{ℕ}
 use mathlib.Core.Path.{refl, ap, ◌∙◌}
-use Rattle.step.proofs.Answered.{not_done}
+use Rattle.limits.proofs.Refused.{refusal-some}
 use Rattle.append.specs.Appending.{Lent, lent}
 use Rattle.builder.proofs.Answers as laws
 use Rattle.builder.specs.declared.Builder.{Builder}
@@ -23,7 +23,7 @@ returns-in-Err c =
     let areas : Lent = let a = c.args in lent a.items.now a.ends.now a.flags.now a.counts.now a.keys.now a.lens.now in
     let a = c.args in
     let all = laws.append-refused a.self (areas) a.times a.present a.value a.item.now c.column_of.ensures c.in-Some.is c.ranges.value
-    c.in-Err.ensures (not_done _) in
+    c.in-Err.ensures (refusal-some _) in
     record { value = ap (λ (n : ℕ). told n a.self) c.from.ensures ∙ all.0; after = all.1.0; ends_after = all.1.1.0; flags_after = all.1.1.1.0; counts_after = all.1.1.1.1.0; keys_after = all.1.1.1.1.1.0; lens_after = all.1.1.1.1.1.1 }
 
 pub returns-in-Ok : goal.returns-in-Ok

@@ -1,5 +1,5 @@
 -- `step::run_counted` meets its contract: each return by the law of the tests that led there. Assumes nothing.
-use mathlib.Core.Path.{◌≡◌, refl, ◌∙◌}
+use mathlib.Core.Path.{◌≡◌, refl}
 use mathlib.Core.Bool.{cond}
 use Rattle.needs.specs.Tests.{runs_by}
 use Rattle.needs.proofs.Encodings.{runs-coded}
