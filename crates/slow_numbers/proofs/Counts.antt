@@ -74,7 +74,6 @@ module _ (value worth i low : ℕ) where
   ahead_more (Some c) = by_value c.value c.len
     where
       by_value : (v n : ℕ) → ahead value worth i (more low (counted v n)) ≡ ahead (value + low * worth) (worth * 128) (i + 1) (counted v n)
-      unfolding more ahead idle_after
       by_value zero n = simp (lt-ltb 0 (i + 1) (omega arith))
       by_value (suc v) n = ahead-worth (suc v) n (omega arith)
   ahead_more None = refl

@@ -1,5 +1,4 @@
 -- `copy_by_eight` meets its contract: the law of the loop that copies, by eight bytes a step, and then the rest. Assumes nothing.
-use Prim.Native.Nat.{◌-◌}
 use mathlib.Core.Path.{◌∙◌}
 use Rattle.char_rows.proofs.Words.{copying-start, copying-word}
 use Rattle.char_rows.proofs.copy_by_eight.Goals as goal
