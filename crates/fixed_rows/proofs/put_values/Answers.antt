@@ -1,5 +1,4 @@
 -- `fixed_rows::put_values` meets its contract: the law of the loops over runs that write an element a row, at the values. Assumes nothing.
-use Prim.Native.Nat.{◌-◌}
 use mathlib.Core.Path.{refl}
 use borrow.Author.Rules.{rules}
 use native.Mathlib.Omega.{arith}

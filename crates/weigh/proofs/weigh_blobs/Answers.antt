@@ -1,5 +1,5 @@
 -- `weigh::weigh_blobs` meets its contract: the law of the loops that weigh, at blob, whose ends are looked at under a null bit too. Assumes nothing.
-use Prim.Native.Nat.{◌-◌, ◌^◌, ◌≤◌, ◌<◌}
+use Prim.Native.Nat.{◌^◌, ◌≤◌, ◌<◌}
 use mathlib.Core.Path.{refl, ◌∙◌}
 use native.Mathlib.Omega.{arith}
 use Rattle.encode.specs.Kinds.{blob}

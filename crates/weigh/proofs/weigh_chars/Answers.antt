@@ -1,5 +1,5 @@
 -- `weigh::weigh_chars` meets its contract: the law of the loops that weigh, at char, which has no ends. Assumes nothing.
-use Prim.Native.Nat.{◌-◌, ◌^◌, ◌≤◌, ◌<◌}
+use Prim.Native.Nat.{◌^◌, ◌≤◌, ◌<◌}
 use mathlib.Core.Path.{refl}
 use native.Mathlib.Omega.{arith}
 use Rattle.encode.specs.declared.Kind.TheVariants.{Char}

@@ -1,5 +1,5 @@
 -- `weigh::weigh_fixed` meets its contract: the law of the loops that weigh, where an item has no ends and no bytes. Assumes nothing.
-use Prim.Native.Nat.{◌-◌, ◌^◌, ◌≤◌, ◌<◌}
+use Prim.Native.Nat.{◌^◌, ◌≤◌, ◌<◌}
 use mathlib.Core.Path.{refl}
 use native.Mathlib.Omega.{arith}
 use Rattle.source.proofs.AtPlace.{entry-fine}
