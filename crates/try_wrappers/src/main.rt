@@ -21,21 +21,10 @@ const APPENDS: [(i64, usize); 8] = [
     (-1, 4294967295),
 ];
 
-fn appends(builder: Builder) {
-    let mut areas = Areas {
-        items: &mut [0u8; 8],
-        ends: &mut [0u32; 1],
-        flags: &mut [0u8; 1],
-        counts: &mut [0u32; 2],
-        keys: &mut [0i32; 1],
-        lens: &mut [0u8; 1],
-    };
-    let mut full = builder;
-    for (value, times) in APPENDS {
-        full = append(full, &mut areas, value, times);
-    }
+// Sample A finished, and read back.
+fn finish(builder: Builder, areas: &Areas) {
     let mut block = [0u8; 18];
-    let finished = full.finish(
+    let finished = builder.finish(
         areas.items,
         areas.ends,
         areas.flags,
@@ -49,6 +38,22 @@ fn appends(builder: Builder) {
     decimal(finished.len);
     say(b"\n");
     reads(&block);
+}
+
+fn appends(builder: Builder) {
+    let mut areas = Areas {
+        items: &mut [0u8; 8],
+        ends: &mut [0u32; 1],
+        flags: &mut [0u8; 1],
+        counts: &mut [0u32; 2],
+        keys: &mut [0i32; 1],
+        lens: &mut [0u8; 1],
+    };
+    let mut full = builder;
+    for (value, times) in APPENDS {
+        full = append(full, &mut areas, value, times);
+    }
+    finish(full, &areas);
 }
 
 fn main() {

@@ -36,16 +36,8 @@ fn show(builder: Builder, areas: &Areas) {
     }
 }
 
-// True, or null, n times by one call. One slot of each area is enough, since equal rows are one run.
-fn append(builder: Builder, present: bool, n: usize) {
-    let mut areas = Areas {
-        items: &mut [0u8; 1],
-        ends: &mut [0u32; 1],
-        flags: &mut [0u8; 1],
-        counts: &mut [0u32; 1],
-        keys: &mut [0i32; 1],
-        lens: &mut [0u8; 1],
-    };
+// True, or null, n times by one call, and the builder after it.
+fn append_into(builder: Builder, areas: &mut Areas, present: bool, n: usize) -> Builder {
     let appended = builder.append_times(
         areas.items,
         areas.ends,
@@ -59,7 +51,21 @@ fn append(builder: Builder, present: bool, n: usize) {
         n,
     );
     refused(appended.number);
-    show(appended.builder, &areas);
+    appended.builder
+}
+
+// One slot of each area is enough, since equal rows are one run.
+fn append(builder: Builder, present: bool, n: usize) {
+    let mut areas = Areas {
+        items: &mut [0u8; 1],
+        ends: &mut [0u32; 1],
+        flags: &mut [0u8; 1],
+        counts: &mut [0u32; 1],
+        keys: &mut [0i32; 1],
+        lens: &mut [0u8; 1],
+    };
+    let next = append_into(builder, &mut areas, present, n);
+    show(next, &areas);
 }
 
 // A column of bool, its kind the number 0.
