@@ -5,15 +5,14 @@ use mathlib.Core.Path.{◌≡◌, refl, sym, ap, ◌∙◌}
 use mathlib.Core.List.{List}
 use lib.ListN.{length}
 use borrow.Author.Tests.{lt-ltb, le-ltb}
-use Rattle.std.specs.Prelude.{Result, Ok, Err}
+use Rattle.std.specs.Prelude.{Result, Ok, Err, Option, Some, None}
 use Rattle.limits.specs.Limits.{MOST_BYTES}
 use Rattle.limits.specs.Refusals.{COLUMN, LIMIT}
 use Rattle.encode.specs.declared.Kind.{Kind}
 use Rattle.plain.specs.Rules.{first_of}
 use Rattle.format.specs.declared.Encoding.{Encoding}
 use Rattle.format.specs.declared.Column.{Column}
-use Rattle.format.specs.declared.Column.TheVariants.{Of, Unknown}
-use Rattle.format.specs.Blocks.{column_of}
+use Rattle.format.specs.Blocks.{column, column_of}
 use Rattle.format.specs.declared.Head.{Head}
 use Rattle.format.specs.Opening.{head_of, most_rows, rules_of, column_number, open_number}
 use Rattle.format.specs.Found.{found_by}
@@ -27,12 +26,12 @@ unfolding opened_by
 refused-by zero r h = absurd (omega arith)
 refused-by (suc i) r h = refl
 
-module _ (kind encoding width n : ℕ) (b : List ℕ) {x : Column} (named : x ≡ column_of kind encoding width) where
-  pub open_unknown : x ≡ Unknown → Err COLUMN ≡ opened kind encoding width n b
+module _ (kind encoding width n : ℕ) (b : List ℕ) {x : Option Column} (named : x ≡ column_of kind encoding width) where
+  pub open_unknown : x ≡ None → Err COLUMN ≡ opened kind encoding width n b
   unfolding opened opened_by open_number column_number
   open_unknown q = rw (← named, q)
 
-  module _ {k : Kind} {e : Encoding} (q : x ≡ Of k e) where
+  module _ {k : Kind} {e : Encoding} (q : x ≡ Some (column k e)) where
     pub open-long : MOST_BYTES < length b → Err LIMIT ≡ opened kind encoding width n b
     unfolding opened opened_by open_number column_number first_of
     open-long h = rw (← named, q) (simp (lt-ltb MOST_BYTES (length b) h))

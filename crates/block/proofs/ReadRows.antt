@@ -8,14 +8,12 @@ use mathlib.Core.List.{List}
 use lib.IntN.{ℤ}
 use lib.ListN.{length, take}
 use borrow.Author.Tests.{eq-eqb, ne_eqb, not-true, not-false}
-use Rattle.std.specs.Prelude.{Result, Ok, Err}
+use Rattle.std.specs.Prelude.{Result, Ok, Err, Option, Some, None}
 use Rattle.limits.specs.Limits.{MOST_ITEMS}
 use Rattle.limits.specs.Refusals.{DISAGREE}
 use Rattle.encode.specs.declared.Kind.{Kind}
 use Rattle.zeros.specs.Zeros.{zeros_in}
 use Rattle.rle.specs.declared.Spot.{Spot}
-use Rattle.rle.specs.declared.Reached.{Reached}
-use Rattle.rle.specs.declared.Reached.TheVariants.{At, Stuck}
 use Rattle.rle.specs.Stepping.{spot, Steps, stuck, rows, steps_from}
 use Rattle.rle.specs.Pieces.{steps_in, reached}
 use Rattle.source.specs.Rows.{StartsBy}
@@ -47,7 +45,7 @@ pub record Passed (r : Reader) (b : List ℕ) (skip size : ℕ) (a : Areas) (k :
 -- ---- the rows passed over
 -- from the parts
 module _ (p : Parts) (from : Spot) (b : List ℕ) (n : ℕ) where
-  pub pass-items : not p.source.coded ≡ true → At (spot (from.run + n) from.at from.taken) ≡ reached (steps_by p from b n)
+  pub pass-items : not p.source.coded ≡ true → Some (spot (from.run + n) from.at from.taken) ≡ reached (steps_by p from b n)
   unfolding steps_by steps_in reached
   pass-items h = rw (not-true p.source.coded h)
 
@@ -56,12 +54,12 @@ module _ (p : Parts) (from : Spot) (b : List ℕ) (n : ℕ) where
   pass-runs h = rw (not-false p.source.coded h)
 
 -- by what the pass over them found
-stuck_there : (w : Steps) → Stuck ≡ reached w → w ≡ stuck
+stuck_there : (w : Steps) → None ≡ reached w → w ≡ stuck
 unfolding reached
 stuck_there stuck h = refl
 stuck_there (rows is t) h = let z : ◌≡◌ {A = ℕ} 0 1 = cc in absurd (omega arith)
 
-at_there : (w : Steps) {t : Spot} → At t ≡ reached w → (is : List ℕ) × (w ≡ rows is t)
+at_there : (w : Steps) {t : Spot} → Some t ≡ reached w → (is : List ℕ) × (w ≡ rows is t)
 unfolding reached
 at_there stuck h = let z : ◌≡◌ {A = ℕ} 0 1 = cc in absurd (omega arith)
 at_there (rows is u) {t} h = let q : t ≡ u = cc in (is, rw q)
@@ -108,17 +106,17 @@ module _
     pub pass-may : AllWithin p (length b) × (p.source.runs ≤ MOST_ITEMS) × (start.run + skip < 2 ^ 64)
     pass-may = let h = start-within in let l = rows_few in (serve.lies.within, serve.runs, omega arith)
 
-    module _ {g : Reached} (passed : g ≡ reached (steps_by p start b skip)) where
+    module _ {g : Option Spot} (passed : g ≡ reached (steps_by p start b skip)) where
       steps-are : next_steps e r b skip ≡ respot coded r (steps_by p start b skip)
       steps-are = rw starts serve.steps
 
-      pub read-stuck : g ≡ Stuck → refused_batch DISAGREE r a ≡ read r b skip size a
+      pub read-stuck : g ≡ None → refused_batch DISAGREE r a ≡ read r b skip size a
       unfolding pass_then respot
       read-stuck h =
           let w = stuck_there (steps_by p start b skip) (sym h ∙ passed) in
           ap (λ (x : Steps). pass_then k e r b skip size a (respot coded r x)) (sym w) ∙ ap (pass_then k e r b skip size a) (sym steps-are) ∙ s.on
 
-      module _ {from : Spot} (there : g ≡ At from) where
+      module _ {from : Spot} (there : g ≡ Some from) where
         over : (is : List ℕ) × (steps_by p start b skip ≡ rows is from)
         over = at_there (steps_by p start b skip) (sym there ∙ passed)
 

@@ -1,9 +1,8 @@
 -- For the code: what a read's tests come to before any field, the place in the runs from which reading goes on, and the reader after some rows. Assumes
 -- nothing.
-use Rattle.std.specs.Prelude.{Result, Ok, Err, ℕ, ◌-◌, Bool, true, false, cond, not, ◌||◌, ltb, eqb, List}
+use Rattle.std.specs.Prelude.{Result, Ok, Err, ℕ, ◌-◌, Bool, true, false, cond, not, ◌||◌, ltb, eqb, List, Option, Some, None}
 use Rattle.limits.specs.Refusals.{NO_ROWS, TOO_FAR, DISAGREE}
 use Rattle.format.specs.declared.Column.{Column}
-use Rattle.format.specs.declared.Column.TheVariants.{Of, Unknown}
 use Rattle.format.specs.Blocks.{column_of}
 use Rattle.zeros.specs.Zeros.{zeros_in}
 use Rattle.source.specs.declared.Marks.{Marks}
@@ -12,18 +11,16 @@ use Rattle.rle.specs.declared.Spot.{Spot}
 use Rattle.rle.specs.Stepping.{spot}
 use Rattle.block.specs.declared.Reader.{Reader}
 use Rattle.block.specs.declared.Given.{Given}
-use Rattle.encode.specs.declared.Kind.{Kind}
-use Rattle.format.specs.declared.Encoding.{Encoding}
 use Rattle.block.specs.Reading.{moved, wrong, asks_nothing}
 
 -- the tests before any field, on a block of so many bytes: the kind and the encoding, or a refusal
-unfoldable pub tests_in : Column → Reader → ℕ → ℕ → Result (Kind × Encoding) ℕ
-tests_in Unknown r len skip = Err DISAGREE
-tests_in (Of k e) r len skip =
-    cond (not (eqb len r.len) || wrong k e r) (Err DISAGREE)
-    (cond (ltb (r.rows - r.place) skip) (Err TOO_FAR) (Ok (k, e)))
+unfoldable pub tests_in : Option Column → Reader → ℕ → ℕ → Result Column ℕ
+tests_in None r len skip = Err DISAGREE
+tests_in (Some c) r len skip =
+    cond (not (eqb len r.len) || wrong c.kind c.encoding r) (Err DISAGREE)
+    (cond (ltb (r.rows - r.place) skip) (Err TOO_FAR) (Ok c))
 
-unfoldable pub tests_of : Reader → ℕ → ℕ → ℕ → Result (Kind × Encoding) ℕ
+unfoldable pub tests_of : Reader → ℕ → ℕ → ℕ → Result Column ℕ
 tests_of r len skip size = cond (asks_nothing skip size) (Err NO_ROWS) (tests_in (column_of r.kind r.encoding r.width) r len skip)
 
 -- of rows that are not coded by runs, the row is the run

@@ -16,7 +16,7 @@ use encode::Kind;
 use format::{Column, Encoding, Head};
 use limits::refusal;
 use limits::refusal::Refusal;
-use rle::{Reached, Spot};
+use rle::Spot;
 use source::Marks;
 
 // Opens a block of `rows` rows. The refusals come in the order of document 01.
@@ -29,14 +29,11 @@ pub fn open(
 ) -> Result<Reader, Refusal>
     ensures { by_number result ≡ opened kind encoding width rows block.now }
 {
-    let column = format::column_of(kind, encoding, width);
-    let Column::Of {
-        kind: k,
-        encoding: e,
-    } = column
-    else {
+    let found = format::column_of(kind, encoding, width);
+    let Some(column) = found else {
         return Err(Refusal::Column);
     };
+    let e = column.encoding;
     let len = block.len();
     if limits::MOST_BYTES < len {
         return Err(Refusal::Limit);
@@ -44,7 +41,7 @@ pub fn open(
     if format::most_rows(e) < rows {
         return Err(Refusal::Limit);
     }
-    let head = format::check(k, e, rows, block)?;
+    let head = format::check(column.kind, e, rows, block)?;
     Ok(Reader::at_start(kind, encoding, width, rows, len, head))
 }
 
@@ -62,13 +59,13 @@ pub fn no_reader() -> Reader
 }
 
 // The place after `n` rows.
-fn pass(parts: Parts, from: Spot, block: &[u8], n: usize) -> Reached
+fn pass(parts: Parts, from: Spot, block: &[u8], n: usize) -> Option<Spot>
     requires { AllWithin parts (length block.now) × (parts.source.runs ≤ MOST_ITEMS) × (from.run + n < 2 ^ 64) }
     ensures { result ≡ reached (steps_by parts from block.now n) }
 {
     let source = parts.source;
     if !source.coded {
-        return Reached::At(Spot {
+        return Some(Spot {
             run: from.run + n,
             at: from.at,
             taken: from.taken,
@@ -132,7 +129,7 @@ impl Reader {
         }
     }
 
-    fn named(self) -> Column
+    fn named(self) -> Option<Column>
         ensures { result ≡ column_of self.kind self.encoding self.width }
     {
         format::column_of(self.kind, self.encoding, self.width)
@@ -192,15 +189,15 @@ impl Reader {
     pub fn remaining(self) -> Left
         ensures { result ≡ remaining_of self }
     {
-        let column = self.named();
-        let Column::Of { kind, encoding } = column else {
+        let found = self.named();
+        let Some(column) = found else {
             return Left {
                 number: refusal::DISAGREE,
                 rows: 0,
                 reader: self,
             };
         };
-        if self.wrong(kind, encoding) {
+        if self.wrong(column.kind, column.encoding) {
             return Left {
                 number: refusal::DISAGREE,
                 rows: 0,
@@ -216,26 +213,26 @@ impl Reader {
 
     // The tests of a read before any field, in their order; the block is `len` bytes long. They are one function and not the start of
     // `read`, so that the compiler takes the rows for what is likely to come.
-    fn tested(self, len: usize, skip: usize, size: usize) -> Result<(Kind, Encoding), Refusal>
+    fn tested(self, len: usize, skip: usize, size: usize) -> Result<Column, Refusal>
         ensures { by_number result ≡ tests_of self len skip size }
     {
         if nothing_asked(skip, size) {
             return Err(Refusal::NoRows);
         }
-        let column = self.named();
-        let Column::Of { kind, encoding } = column else {
+        let found = self.named();
+        let Some(column) = found else {
             return Err(Refusal::Disagree);
         };
         if len != self.len {
             return Err(Refusal::Disagree);
         }
-        if self.wrong(kind, encoding) {
+        if self.wrong(column.kind, column.encoding) {
             return Err(Refusal::Disagree);
         }
         if self.rows - self.place < skip {
             return Err(Refusal::TooFar);
         }
-        Ok((kind, encoding))
+        Ok(column)
     }
 
     // A read's answer as a record: a refused read leaves the reader where it is.
@@ -270,11 +267,17 @@ impl Reader {
         ensures ends_after { ends.new ≡ (read_of self block.now skip size (areas values.old flags.old ends.old bytes.old)).areas.ends }
         ensures bytes_after { bytes.new ≡ (read_of self block.now skip size (areas values.old flags.old ends.old bytes.old)).areas.bytes }
     {
-        let (kind, encoding) = self.tested(block.len(), skip, size)?;
-        let parts = anatomy::take_apart(kind, encoding, self.rows, self.len, self.head);
+        let column = self.tested(block.len(), skip, size)?;
+        let parts = anatomy::take_apart(
+            column.kind,
+            column.encoding,
+            self.rows,
+            self.len,
+            self.head,
+        );
         let source = parts.source;
         let there = pass(parts, self.start(source.coded), block, skip);
-        let Reached::At(from) = there else {
+        let Some(from) = there else {
             return Err(Refusal::Disagree);
         };
         let n = area::least(size, self.rows - self.place - skip);

@@ -114,8 +114,8 @@ pub fn create_with_key_target(
 ) -> Result<Builder, Refusal>
     ensures { by_number result ≡ created kind encoding width target keytarget }
 {
-    if format::column_of(kind, encoding, width).is_none() {
-        return Err(Refusal::Column);
+    match format::column_of(kind, encoding, width) {
+        Some(_) => Ok(Builder::new(kind, encoding, width, target, keytarget)),
+        None => Err(Refusal::Column),
     }
-    Ok(Builder::new(kind, encoding, width, target, keytarget))
 }

@@ -231,7 +231,12 @@ module _ (kind encoding width n : ℕ) (b : List ℕ) where
             let s = start named.kind n b kind encoding width named.encoding c (sound named.kind named.encoding q.0 c) in
             let h = head-told named.kind named.encoding c ∙ q.1 in
             let l = s.count in
-            record { k = named.kind; e = named.encoding; stands = subst (λ (x : Reader). Stands named.kind named.encoding n b x (places_of named.encoding n (head_of named.encoding b) b)) h s; all = omega arith }
+            record {
+              k = named.kind;
+              e = named.encoding;
+              stands = subst (λ (x : Reader). Stands named.kind named.encoding n b x (places_of named.encoding n (head_of named.encoding b) b)) h s;
+              all = omega arith;
+            }
 
     module _ (cs : List Call) where
       there : Reached found.k found.e n b r (places_of found.e n (head_of found.e b) b) cs

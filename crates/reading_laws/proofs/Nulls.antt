@@ -123,8 +123,9 @@ module _ (r : Reader) (b : List ℕ) (skip size : ℕ) (a : Areas) where
   unfolding read_in
   column-counts None = refused-counts None DISAGREE r a
   column-counts (Some c) =
-      either-counts (Some (column c.kind c.encoding)) r.nulls (not (eqb (length b) r.len) || wrong c.kind c.encoding r) _ _ (refused-counts (Some (column c.kind c.encoding)) DISAGREE r a)
-      (either-counts (Some (column c.kind c.encoding)) r.nulls (ltb (r.rows - r.place) skip) _ _ (refused-counts (Some (column c.kind c.encoding)) TOO_FAR r a) (passed-counts c.kind c.encoding (next_steps c.encoding r b skip)))
+      either-counts (Some c) r.nulls (not (eqb (length b) r.len) || wrong c.kind c.encoding r) _ _ (refused-counts (Some c) DISAGREE r a)
+      (either-counts (Some c) r.nulls (ltb (r.rows - r.place) skip) _ _ (refused-counts (Some c) TOO_FAR r a)
+      (passed-counts c.kind c.encoding (next_steps c.encoding r b skip)))
 
   read-counts : Counts (column_in r) r.nulls (read r b skip size a)
   unfolding read

@@ -1,5 +1,5 @@
 -- A reader that opening gave, or that calls reached from there: which rows are left, and that nothing refuses them as 9. Assumes nothing.
-use Rattle.std.specs.Prelude.{Some}
+use Rattle.std.specs.Prelude.{Some, Ok}
 use Prim.Native.Nat.{ℕ, zero, suc, ◌+◌, ◌-◌, ◌*◌, ◌≤◌, ◌<◌}
 use native.Mathlib.Nat.{zero-add}
 use native.Mathlib.Omega.{arith}
@@ -18,7 +18,6 @@ use Rattle.plain.proofs.Places.{length-places, places-add}
 use Rattle.nullable.specs.Nullable.{bitmap_length, plain_part, nullable_number}
 use Rattle.nullable.proofs.Parts as NullableParts
 use Rattle.rle.specs.declared.Spot.{Spot}
-use Rattle.rle.specs.declared.Walked.TheVariants.{Total}
 use Rattle.rle.specs.RunLength.{inner_part, walked, run_numbers, counts_part}
 use Rattle.rle.specs.Stepping.{spot, rows, steps_from}
 use Rattle.rle.proofs.Steps.{Below, Parts, steps-parts, steps-length, steps-below}
@@ -245,7 +244,7 @@ module _
         never false = refl
 
 -- the rows in their runs
-module _ (runs n : ℕ) (counts : List ℕ) (q : walked runs counts ≡ Total n) where
+module _ (runs n : ℕ) (counts : List ℕ) (q : walked runs counts ≡ Ok n) where
   run-rows : (t : Spot) × (steps_from runs counts n (spot 0 0 0) ≡ rows (run_numbers runs 0 counts) t)
   run-rows = whole-steps runs counts n q
 

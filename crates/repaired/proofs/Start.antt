@@ -59,10 +59,10 @@ module _ (n : ℕ) where
           let p = head-refused n b e in
           let q : x ≡ 0 = sym (head-number (plain_number i32) n b ∙ ap (number_by (plain_number i32) b) e) ∙ h in
           absurd (omega arith)
-      by (Ok (Some f)) e =
+      by (Ok (Some k)) e =
           let s = head-sound n b e in
-          let q : plain_number i32 f.runs (inner_part f.counts b) ≡ 0 = sym (head-number (plain_number i32) n b ∙ ap (number_by (plain_number i32) b) e) ∙ h in
-          let l = fixed_plain I32 f.runs (inner_part f.counts b) q in
+          let q : plain_number i32 k.runs (inner_part k.counts b) ≡ 0 = sym (head-number (plain_number i32) n b ∙ ap (number_by (plain_number i32) b) e) ∙ h in
+          let l = fixed_plain I32 k.runs (inner_part k.counts b) q in
           rw (← s.runs-read, ← s.counts-read) (record { few = s.many; sum = s.sum; room = omega arith })
 
 module _ {n : ℕ} {b : List ℕ} {runs counts : ℕ} (s : SoundKeyBlock n b runs counts) where

@@ -20,7 +20,9 @@ returns g c =
     let eight : length c.args.item ≡ 8 = search rules in
     let long : length bs ≡ w = length-take-le w c.args.item (omega arith) in
     let from : c.copy_from_slice.new.self ≡ bs = c.copy_from_slice.ensures.after in
-    let is : c.from_be_bytes.result ≡ number (reverse bs) = laws.high_read w bs c.from_be_bytes.result c.requires (long) (c.from_be_bytes.ensures ∙ ap (from_be_bytes w64) (laws.behind w bs _ c.requires (long) from c.copy_from_slice.ensures.len)) in
+    let laid = laws.behind w bs _ c.requires (long) from c.copy_from_slice.ensures.len in
+    let is : c.from_be_bytes.result ≡ number (reverse bs) =
+    laws.high_read w bs c.from_be_bytes.result c.requires (long) (c.from_be_bytes.ensures ∙ ap (from_be_bytes w64) laid) in
     let small : (i : ℕ) → get_or c.args.item i 0 < 256 = search rules in
     let all : All laws.IsByte bs = All-take laws.IsByte w c.args.item (All-from_get_or laws.IsByte c.args.item 0 (λ (i : ℕ) (p : i < length c.args.item). small i)) in
     let below : number (reverse bs) < 256 ^ length (reverse bs) = laws.number-below (reverse bs) (laws.bytes-reversed bs all) in

@@ -24,7 +24,15 @@ returns-in-Err c =
     let a = c.args in
     let all = laws.append-refused a.self (areas) a.times a.present a.value a.item.now c.column_of.ensures c.in-Some.is c.ranges.value
     c.in-Err.ensures (refusal-some _) in
-    record { value = ap (λ (n : ℕ). told n a.self) c.from.ensures ∙ all.0; after = all.1.0; ends_after = all.1.1.0; flags_after = all.1.1.1.0; counts_after = all.1.1.1.1.0; keys_after = all.1.1.1.1.1.0; lens_after = all.1.1.1.1.1.1 }
+    record {
+      value = ap (λ (n : ℕ). told n a.self) c.from.ensures ∙ all.0;
+      after = all.1.0;
+      ends_after = all.1.1.0;
+      flags_after = all.1.1.1.0;
+      counts_after = all.1.1.1.1.0;
+      keys_after = all.1.1.1.1.1.0;
+      lens_after = all.1.1.1.1.1.1;
+    }
 
 pub returns-in-Ok : goal.returns-in-Ok
 returns-in-Ok c =
