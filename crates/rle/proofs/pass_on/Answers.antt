@@ -29,7 +29,7 @@ loop-left-preserved c =
     let inside : c.loop-left.run + c.pass-short.result.runs ≤ c.args.runs = grouped-inside c.loop-left.invariant.0 (omega arith) c.pass-short.ensures in
     let stop-within : c.loop-left.run + c.pass-short.result.runs + c.min-few.result ≤ c.args.runs = omega (arith, c.min-few.ensures, inside) in (
       part-on c.loop-left.invariant.0 (omega arith) c.pass-short.ensures (stop-within) c.pass_runs.ensures c.in_ok-gone.was (omega arith),
-      omega (arith, c.in_ok-gone.known_told-1-own.given),
+      omega arith,
       c.next_few-most.ensures,
     )
 
