@@ -7,7 +7,7 @@ use mathlib.Core.Bool.{Bool, true, false, not}
 use mathlib.Core.List.{List}
 use lib.IntN.{ℤ}
 use lib.ListN.{length, take}
-use borrow.Author.Tests.{eq-eqb, ne_eqb, not-true, not-false}
+use borrow.Author.Tests.{ne_eqb, not-true, not-false}
 use Rattle.std.specs.Prelude.{Result, Ok, Err, Option, Some, None}
 use Rattle.limits.specs.Limits.{MOST_ITEMS}
 use Rattle.limits.specs.Refusals.{DISAGREE}
@@ -29,7 +29,7 @@ use Rattle.block.specs.declared.Reader.{Reader}
 use Rattle.block.specs.declared.Given.{Given}
 use Rattle.block.specs.Reading.{next_steps, moved, counted, Batch, refused_batch, batch_of, up_to, whole, pass_then, read}
 use Rattle.block.specs.Spots.{start_of, spot_by, moved_by, nulls_by}
-use Rattle.block.proofs.RecordTests.{RightRecord, right, most-rows}
+use Rattle.block.proofs.RecordTests.{RightRecord, most-rows}
 use Rattle.block.proofs.NextRows.{respot, Served, served, serves}
 use Rattle.block.proofs.MovedReader.{moved-right}
 use Rattle.block.proofs.GivenNulls.{flags-fit, nulls-by-marks}

@@ -1,5 +1,5 @@
 -- A block is sound for one number of rows at most, for every pair: a block's bytes tell how many rows it holds. Assumes nothing.
-use Rattle.std.specs.Prelude.{Option, Some, None, Ok}
+use Rattle.std.specs.Prelude.{Option, Some, None, Result, Ok}
 use Prim.Native.Nat.{ℕ, ◌+◌, ◌-◌, ◌*◌, ◌≤◌, ◌<◌}
 use native.Mathlib.Nat.{le_antisymm}
 use native.Mathlib.Omega.{arith}
@@ -166,7 +166,7 @@ nullable-count k w n m b h i =
     plain-count k w n m (plain_part n b) x.plain (rw e at y.plain)
 
 -- ---- blocks of runs: the sum of the counts
-total-one : {n m : ℕ} → Ok n ≡ Ok m → n ≡ m
+total-one : {n m : ℕ} → ◌≡◌ {A = Result ℕ ℕ} (Ok n) (Ok m) → n ≡ m
 total-one e = cc
 
 runs-count : (inner : ℕ → List ℕ → ℕ) (n m : ℕ) (b : List ℕ) → run_length_number inner n b ≡ 0 → run_length_number inner m b ≡ 0 → n ≡ m

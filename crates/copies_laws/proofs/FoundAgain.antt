@@ -3,7 +3,7 @@
 use Prim.Native.Nat.{◌<◌}
 use mathlib.Core.Bool.{Bool, true, false}
 use mathlib.Core.Path.{◌≡◌, refl, sym, ap, subst, ◌∙◌}
-use lib.IntN.{ℤ, pos}
+use lib.IntN.{ℤ}
 use lib.ListN.{length}
 use Rattle.encode.specs.declared.Kind.{Kind}
 use Rattle.encode.proofs.Bools.{clash}

@@ -18,17 +18,16 @@ use Rattle.encode.proofs.Bools.{or-none}
 use Rattle.encode.specs.declared.Primitive.{Primitive}
 use Rattle.encode.specs.declared.Kind.{Kind}
 use Rattle.encode.specs.declared.Kind.TheVariants.{Fixed, Char, Blob}
-use Rattle.plain.specs.Rows.{Row, bytes, int_in, bytes_in}
-use Rattle.plain.specs.Plain.{all_of, places, joined, ends_from}
+use Rattle.plain.specs.Rows.{Row, int_in, bytes_in}
+use Rattle.plain.specs.Plain.{joined, ends_from}
 use Rattle.nullable.specs.Nullable.{presence}
 use Rattle.rle.specs.declared.Spot.{Spot}
-use Rattle.rle.specs.Stepping.{rows}
 use Rattle.source.specs.declared.Source.{Source}
 use Rattle.source.specs.Rows.{row_by, text_by, size_by, int_by, flag_by, sum_of, capped, Texts}
 use Rattle.source.proofs.Folds.{length-joined, length-ends}
 use Rattle.anatomy.specs.declared.Parts.{Parts}
 use Rattle.anatomy.specs.Parts.{marks_in, items_in}
-use Rattle.part_rows.specs.PartRows.{steps_by, places_in, row_in, good_in, size_in, value_in, flag_in, text_in, values_given, flags_given, ends_given, bytes_given, weight_given}
+use Rattle.part_rows.specs.PartRows.{steps_by, places_in, row_in, size_in, value_in, flag_in, text_in, values_given, flags_given, ends_given, bytes_given, weight_given}
 use Rattle.part_rows.proofs.Places.{Read, runs-are, length-steps}
 use Rattle.fill.specs.declared.Filled.{Filled}
 use Rattle.fill.specs.Areas.{Areas, areas, is_bytes, short, filled_in, given_bytes}

@@ -1,6 +1,6 @@
 -- Run counts: a list of counts as the layout says is one that the walk over its bytes adds up, and the other way round. Assumes nothing.
 use Rattle.std.specs.Prelude.{Option, Some, None, Result, Ok, Err}
-use Prim.Native.Nat.{ℕ, zero, suc, ◌+◌, ◌-◌, ◌*◌, ◌^◌, ◌<◌}
+use Prim.Native.Nat.{ℕ, zero, suc, ◌+◌, ◌-◌, ◌*◌, ◌^◌}
 use native.Mathlib.Nat.{zero-add}
 use native.Mathlib.Omega.{arith}
 use mathlib.Core.Bool.{Bool, true, false, cond}
@@ -21,6 +21,10 @@ use Rattle.plain.specs.Each.{Each}
 use Rattle.soundness_laws.specs.Sound.{Written, values, written, RunCount, total}
 
 -- ---- a count is read from its own bytes: those behind it don't matter
+abbrev bytes-read : Option Count → ℕ
+bytes-read (Some c) = c.len
+bytes-read None = 0
+
 module _ (rest : List ℕ) where
   abbrev Own : ℕ → List ℕ → Type 0
   Own k s = (v n : ℕ) → count_within k s ≡ counted v n → count_within k (take n s ++ rest) ≡ counted v n
@@ -32,13 +36,13 @@ module _ (rest : List ℕ) where
     where
       go : (t : Bool) → cond t None (counted (low + 128 * w) (m + 1)) ≡ counted v n → n ≡ suc m
       go true p = let z : ◌≡◌ {A = ℕ} 0 1 = cc in absurd (omega arith)
-      go false p = let a : m + 1 ≡ n = cc in omega arith
+      go false p = let a : m + 1 ≡ n = ap bytes-read p in omega arith
 
   own-more : (k b : ℕ) (s : List ℕ) → Own k s → ltb b 128 ≡ false → (c : Option Count) → count_within k s ≡ c
       → (v n : ℕ) → more (b - 128) c ≡ counted v n → count_within (suc k) (take n (b ∷ s) ++ rest) ≡ counted v n
   unfolding count_within more
   own-more k b s own e (Some c) f v n q =
-      let l : n ≡ suc m = one-longer (b - 128) c.value c.len v n q in
+      let l : n ≡ suc c.len = one-longer (b - 128) c.value c.len v n q in
       rw l (simp e (ap (more (b - 128)) (own c.value c.len f) ∙ q ∙ ap (counted v) l))
   own-more k b s own e None f v n q = let z : ◌≡◌ {A = ℕ} 0 1 = cc in absurd (omega arith)
 
@@ -50,7 +54,7 @@ module _ (rest : List ℕ) where
     where
       go : Own k s → (t : Bool) → ltb b 128 ≡ t → cond t (counted b 1) (more (b - 128) (count_within k s)) ≡ counted v n
           → count_within (suc k) (take n (b ∷ s) ++ rest) ≡ counted v n
-      go h true e p = let m : n ≡ 1 = cc in rw m (simp e (p ∙ ap (counted v) m))
+      go h true e p = let m : n ≡ 1 = sym (ap bytes-read p) in rw m (simp e (p ∙ ap (counted v) m))
       go h false e p = own-more k b s h e (count_within k s) refl v n p
 
 as_before : (c : Option Count) (v n : ℕ) → in_32_bits c ≡ counted v n → c ≡ counted v n

@@ -2,7 +2,6 @@
 use mathlib.Core.Path.{◌≡◌, ap}
 use Rattle.std.specs.Prelude.{Result, Ok, Err, IsErrAnd}
 use Rattle.limits.specs.declared.refusal.Refusal.{Refusal}
-use Rattle.limits.specs.Refusals.{refusal_number}
 
 pub passed_on : {A : Type 0} (x : Result A Refusal) {e : Refusal} → IsErrAnd x (λ (g : Refusal). g ≡ e) → x ≡ Err e
 passed_on (Ok a) h = absurd h
