@@ -1,9 +1,9 @@
--- `number_of` meets its contract: each return by the law of the tests that led there. Assumes nothing.
+-- `tested` meets its contract: each return by the law of the tests that led there. Assumes nothing.
 use native.Mathlib.Omega.{arith}
 use mathlib.Core.Path.{ap}
 use Rattle.descriptor.specs.declared.Descriptor.{Descriptor}
 use Rattle.compare_by.proofs.Files as laws
-use Rattle.compare_by.proofs.number_of.Goals as goal
+use Rattle.compare_by.proofs.tested.Goals as goal
 
 pub returns-then-file-lt8 : goal.returns-then-file-lt8
 returns-then-file-lt8 c = laws.no-descriptor _ (omega arith)
