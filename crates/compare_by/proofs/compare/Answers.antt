@@ -1,7 +1,7 @@
 -- `compare` meets its contract: each return by the law of the files' numbers that led there. Assumes nothing.
 use mathlib.Core.Path.{sym, ap, ◌∙◌}
 use Rattle.limits.specs.Refusals.{number_in}
-use Rattle.limits.proofs.Refused.{refused}
+use Rattle.limits.proofs.Refused.{refusal-some}
 use Rattle.compare_by.proofs.Files as laws
 use Rattle.compare_by.proofs.compare.Goals as goal
 
@@ -9,7 +9,7 @@ pub returns-in-Err : goal.returns-in-Err
 returns-in-Err c =
     let a = c.args in
     let all = laws.first-refused a.first.now a.second.now a.firsts.now a.lasts.now
-    (sym (ap number_in c.in-Err.is) ∙ c.tested.ensures) (refused c.in-Err.refusal) c.none.ensures in
+    (sym (ap number_in c.in-Err.is) ∙ c.tested.ensures) (refusal-some c.in-Err.refusal) c.none.ensures in
     record { value = all.0; firsts_after = all.1.0; lasts_after = all.1.1 }
 
 pub returns-in-Err-tested : goal.returns-in-Err-tested
@@ -22,7 +22,7 @@ returns-in-Err-tested c =
     a.lasts.now
     (sym c.tested.ensures ∙ ap number_in c.in_default.is)
     (sym (ap number_in c.in-Err-tested.is) ∙ c.tested-2.ensures)
-    (refused c.in-Err-tested.refusal)
+    (refusal-some c.in-Err-tested.refusal)
     c.none-in-Err-tested.ensures in
     record { value = all.0; firsts_after = all.1.0; lasts_after = all.1.1 }
 
