@@ -115,7 +115,7 @@ module _ (r : Reader) (b : List ℕ) (a a' : Areas) (room : SameRoom a a') where
   done k rs t = record { number = 0; rows = length rs; bytes = given_bytes k rs; reader = counted (moved r (length rs) t) (nulls_in rs) }
 
   same-values : (p : Primitive) (e : Encoding) (rs : List Row) (t : Spot)
-      → SameBatch (Of (Fixed p) e) a a' (record { answer = done (Fixed p) rs t; areas = filled_in (Fixed p) rs a })
+      → SameBatch (Some (column (Fixed p) e)) a a' (record { answer = done (Fixed p) rs t; areas = filled_in (Fixed p) rs a })
       (record { answer = done (Fixed p) rs t; areas = filled_in (Fixed p) rs a' })
   unfolding filled_in given_bytes is_bytes over
   same-values p e rs t =

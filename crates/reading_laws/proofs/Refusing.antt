@@ -65,7 +65,7 @@ module _ (r : Reader) (b : List ℕ) (skip size : ℕ) (a : Areas) where
   unfolding read
   refused-read = go (asks_nothing skip size)
     where
-      x : Column
+      x : Option Column
       x = column_of r.kind r.encoding r.width
 
       go : (s : Bool) → Kept (cond s (refused_batch NO_ROWS r a) (read_in x r b skip size a))

@@ -44,7 +44,7 @@ shown-refused zero c n b r a h = absurd (h refl)
 shown-refused (suc e) c n b r a h = refl
 
 module _ (d : Descriptor) (b : List ℕ) where
-  abbrev named : Column
+  abbrev named : Option Column
   named = column_of d.kind d.encoding d.width
 
   -- ---- a block that isn't opened

@@ -36,7 +36,7 @@ refused-so true (suc m) r z = refl
 refused-so false m r z = refl
 
 module _ (d : Descriptor) (b : List ℕ) where
-  abbrev pub named : Column
+  abbrev pub named : Option Column
   named = column_of d.kind d.encoding d.width
 
   abbrev rules : ℕ
