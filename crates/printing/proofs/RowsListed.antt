@@ -19,7 +19,7 @@ use Rattle.format.specs.Blocks.{with_encoding, column_of, column}
 use Rattle.block.specs.declared.Reader.{Reader}
 use Rattle.block.specs.declared.Given.{Given}
 use Rattle.block.specs.declared.Left.{Left}
-use Rattle.block.specs.Reading.{areas, opened, left, remaining_in, remaining, read}
+use Rattle.block.specs.Reading.{areas, opened, remaining_in, remaining, read}
 use Rattle.descriptor.specs.declared.Descriptor.{Descriptor}
 use Rattle.descriptor.specs.Descriptor.{descriptor_of, described_opened}
 use Rattle.text.specs.Input.{input_opened, block_in}

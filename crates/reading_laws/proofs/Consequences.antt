@@ -27,7 +27,7 @@ use Rattle.anatomy.specs.Tests.{row_good}
 use Rattle.block.specs.declared.Reader.{Reader}
 use Rattle.block.specs.declared.Given.{Given}
 use Rattle.block.specs.Reading.{opened_by, opened, wrong, next_steps, moved, counted, nulls_in}
-use Rattle.block.specs.Reading.{Areas, areas, Batch, is_bytes, short, filled_in, given_bytes, refused_batch, give, batch_of, up_to, whole, pass_then, read_in, asks_nothing, read}
+use Rattle.block.specs.Reading.{Areas, Batch, is_bytes, short, filled_in, given_bytes, refused_batch, give, batch_of, up_to, whole, pass_then, read_in, asks_nothing, read}
 use Rattle.block.specs.Calls.{Call, reading, Answer, gave, refused, handed, column_in, read_answer, answer_to, after, play, play_opened}
 use Rattle.soundness_laws.specs.Sound.{Sound}
 use Rattle.soundness_laws.proofs.Opens.{sound-opens, opens-sound}

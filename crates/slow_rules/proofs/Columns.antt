@@ -12,7 +12,7 @@ use Rattle.encode.specs.declared.Kind.{Kind}
 use Rattle.plain.specs.Rules.{first_of}
 use Rattle.format.specs.declared.Encoding.{Encoding}
 use Rattle.format.specs.declared.Column.{Column}
-use Rattle.format.specs.Blocks.{encoding_of, column_of, column}
+use Rattle.format.specs.Blocks.{column_of, column}
 use Rattle.format.specs.Opening.{most_rows, rules_of, column_number, open_number}
 use Rattle.format.proofs.Sound.{column-rules}
 use Rattle.descriptor.specs.declared.Descriptor.{Descriptor}

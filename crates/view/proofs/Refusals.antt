@@ -9,7 +9,6 @@ use Rattle.std.specs.Prelude.{Result, Ok, Err}
 use Rattle.encode.specs.Kinds.{numbered, kind_of}
 use Rattle.format.specs.Blocks.{column_of, with_encoding}
 use Rattle.block.specs.declared.Given.{Given}
-use Rattle.block.specs.declared.Opening.{Opening}
 use Rattle.block.specs.declared.Reader.{Reader}
 use Rattle.block.specs.Reading.{Areas, Batch, refused_batch, no_reader, asks_nothing, read_in, read, opening_of}
 use Rattle.view.specs.declared.Steps.{Steps}

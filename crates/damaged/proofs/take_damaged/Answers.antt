@@ -13,9 +13,9 @@ pub returns-in_default : goal.returns-in_default
 returns-in_default c =
     laws.unknown _ _ c.if-d-ne0.false c.column_of.ensures c.in_default.is
 
-pub returns-in_default-column : goal.returns-in_default-column
-returns-in_default-column c =
-    laws.other-encoding _ _ c.if-d-ne0.false c.column_of.ensures c.in-Some.is (opened c.in_default-column.in_default-column-own.keys2)
+pub returns-in_default-encoding : goal.returns-in_default-encoding
+returns-in_default-encoding c =
+    laws.other-encoding _ _ c.if-d-ne0.false c.column_of.ensures c.in-Some.is (opened c.in_default-encoding.in_default-encoding-own.keys2)
 
 pub returns-then-block-gt-MOST_BYTES : goal.returns-then-block-gt-MOST_BYTES
 returns-then-block-gt-MOST_BYTES c =
