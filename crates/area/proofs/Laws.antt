@@ -5,11 +5,10 @@ use native.Mathlib.Omega.{arith}
 use mathlib.Core.Bool.{Bool, true, false}
 use mathlib.Core.Logic.{◌⊎◌, inl, inr}
 use mathlib.Core.Path.{◌≡◌, refl, sym, ap, ◌∙◌}
-use mathlib.Core.List.{List, [], ◌∷◌, ◌++◌, append-nil, append_assoc}
+use mathlib.Core.List.{List, [], ◌∷◌, ◌++◌, append-nil}
 use lib.Dec.{ltb}
-use lib.ListN.{length, take, drop, set, length-append, take-append-drop}
-use lib.Seq.{sets, sets-eq, length-sets, drop-drop}
-use borrow.Rule.Slice.PartMut.{put_mid}
+use lib.ListN.{length, set, length-append, take-append-drop}
+use lib.Seq.{sets, sets-eq, length-sets}
 use borrow.Author.Tests.{ltb-true, ltb-false}
 use Rattle.area.specs.Area.{over, repeats, climbs}
 
@@ -29,12 +28,7 @@ module _ {A : Type 0} where
   sets-append [] ys d i = rw add-zero
   sets-append (x ∷ xs) ys d i = let m : i + suc (length xs) ≡ suc i + length xs = omega arith in rw m (sets-append xs ys (set d i x) (suc i))
 
-  -- ---- the same at once: a part that is lent, and then holds vs
-  pub put_mid-sets : (at k : ℕ) (d ys vs : List A) → ys ≡ vs → length vs ≡ k → at + k ≤ length d → put_mid at k d ys ≡ sets d at vs
-  put_mid-sets at k d ys vs e l h =
-      let room : at + length vs ≤ length d = omega arith in
-      rw (e, ← l, drop-drop (length vs) at d) (sym (sets-eq vs d at room ∙ append_assoc (take at d) vs (drop (at + length vs) d)))
-
+  -- ---- the same at once
   pub over-sets : (vs d : List A) (i : ℕ) → i + length vs ≤ length d → sets d i vs ≡ over d i vs
   unfolding over
   over-sets vs d i h = sets-eq vs d i h

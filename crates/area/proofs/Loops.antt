@@ -1,15 +1,14 @@
 -- The loops that fill, copy, repeat and climb: what each keeps true, and that it ends in what its contract says. Assumes nothing.
 use Prim.Native.Nat.{ℕ, zero, suc, ◌+◌, ◌-◌, ◌*◌, ◌^◌, ◌≤◌, ◌<◌}
-use native.Mathlib.Nat.{suc-mul}
+use native.Mathlib.Nat.{add-zero, suc-mul}
 use native.Mathlib.Numerals.{add-one}
 use native.Mathlib.Omega.{arith}
 use mathlib.Core.Path.{◌≡◌, refl, ap, ◌∙◌}
 use mathlib.Core.List.{List, ◌∷◌, ◌++◌}
-use lib.ListN.{length, take, drop, set, replicate, length-set, length-drop}
-use lib.Seq.{sets, length-sets, length-take-le}
+use lib.ListN.{length, take, drop, get_or, set, replicate, length-set, length-drop}
+use lib.Seq.{sets, length-sets, drop-cons, length-take-le}
 use Rattle.area.specs.Area.{repeats, climbs}
-use borrow.Rule.Slice.PartMut.{put_mid}
-use Rattle.area.proofs.Laws.{sets-append, put_mid-sets}
+use Rattle.area.proofs.Laws.{sets-append}
 
 -- ---- `fill`: what is still to be stored, laid over what is there, is the answer
 pub record Filling {A : Type 0} (dst₀ : List A) (at n : ℕ) (x : A) (dst : List A) (i : ℕ) : Type 0 where
@@ -39,14 +38,34 @@ module _ {A : Type 0} where
 part_length : (src : List ℕ) (from n : ℕ) → from + n ≤ length src → length (take n (drop from src)) ≡ n
 part_length src from n h = length-take-le n (drop from src) (simp length-drop (omega arith))
 
--- ---- `copy`: the bytes of a part, as they are lent
-pub copied :
-    (src : List ℕ) (from n at : ℕ) (dst : List ℕ) {ys : List ℕ} → ys ≡ take (from + n - from) (drop from src) → from + n ≤ length src
-    → at + n ≤ length dst → put_mid at (at + n - at) dst ys ≡ sets dst at (take n (drop from src))
-copied src from n at dst {ys} e h k =
-    let m : from + n - from ≡ n = omega arith in
-    let l : at + n - at ≡ n = omega arith in
-    rw l (put_mid-sets at n dst ys (take n (drop from src)) (rw m at e) (part_length src from n h) k)
+-- ---- `copy`
+pub record Copying (src : List ℕ) (from n : ℕ) (dst₀ : List ℕ) (at : ℕ) (dst : List ℕ) (i : ℕ) : Type 0 where
+  pub same : sets dst (at + i) (take (n - i) (drop (from + i) src)) ≡ sets dst₀ at (take n (drop from src))
+  pub hi : i ≤ n
+  pub room : at + n ≤ length dst
+  pub long : length dst ≡ length dst₀
+
+pub copying-start : (src : List ℕ) (from n : ℕ) (dst : List ℕ) (at : ℕ) → at + n ≤ length dst → Copying src from n dst at dst 0
+copying-start src from n dst at r =
+    let m : n - 0 ≡ n = omega arith in
+    record { same = rw (add-zero at, add-zero from, m); hi = omega arith; room = r; long = refl }
+
+module _ {src : List ℕ} {from n : ℕ} {dst₀ : List ℕ} {at : ℕ} {dst : List ℕ} {i : ℕ} (c : Copying src from n dst₀ at dst i) where
+  pub copying-step : i < n → from + n ≤ length src → Copying src from n dst₀ at (set dst (at + i) (get_or src (from + i) 0)) (i + 1)
+  copying-step h k =
+      let m : n - i ≡ suc (n - (i + 1)) = omega arith in
+      let a : at + (i + 1) ≡ suc (at + i) = omega arith in
+      let b : from + (i + 1) ≡ suc (from + i) = omega arith in
+      let l = length-set dst (at + i) (get_or src (from + i) 0) in
+      record {
+        same = rw (a, b) (rw (m, drop-cons src (from + i) 0 (omega arith)) at c.same);
+        hi = omega arith;
+        room = omega (arith, c.room, l);
+        long = l ∙ c.long;
+      }
+
+  pub copying-end : n ≤ i → dst ≡ sets dst₀ at (take n (drop from src))
+  copying-end h = let m : n - i ≡ 0 = omega arith in rw m at c.same
 
 -- ---- `copies`
 pub record Repeating (src : List ℕ) (from n : ℕ) (dst₀ : List ℕ) (at times : ℕ) (dst : List ℕ) (left to : ℕ) : Type 0 where

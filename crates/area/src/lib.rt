@@ -30,12 +30,15 @@ pub fn fill<T: Copy>(dst: &mut [T], at: usize, n: usize, x: T)
     }
 }
 
-// The `n` bytes of `src` from `from` on, at `at`.
+// The `n` bytes of `src` from `from` on, at `at`. A loop: `copy_from_slice` would have the archive call the C library's
+// `memmove`, and of that library it calls `memset` alone.
 pub fn copy(src: &[u8], from: usize, n: usize, dst: &mut [u8], at: usize)
     requires { (from + n ≤ length src.now) × (at + n ≤ length dst.old) }
     ensures { dst.new ≡ sets dst.old at (take n (drop from src.now)) }
 {
-    dst[at..at + n].copy_from_slice(&src[from..from + n]);
+    for i in 0..n {
+        dst[at + i] = src[from + i];
+    }
 }
 
 // The same, `times` times one after the other.
@@ -62,12 +65,14 @@ pub fn climb(dst: &mut [u32], at: usize, n: usize, start: u32, step: u32)
     }
 }
 
-// The first `N` bytes of an item, at `at`.
-fn put_first<const N: usize>(item: &[u8; 8], dst: &mut [u8], at: usize)
+// The first `N` bytes of an item, at `at`: one store. `copy_from_slice` compares the two places before it.
+fn put_first<const N: usize>(item: [u8; 8], dst: &mut [u8], at: usize)
     requires { (at + N ≤ length dst.old) × (N ≤ 8) }
-    ensures { dst.new ≡ sets dst.old at (take N item.now) }
+    ensures { dst.new ≡ sets dst.old at (take N item) }
 {
-    dst[at..at + N].copy_from_slice(&item[..N]);
+    for i in 0..N {
+        dst[at + i] = item[i];
+    }
 }
 
 // An encoded item at `at`, passed whole beside its width: as many of its eight bytes as it has. Each width is a constant of its own, so that
@@ -77,9 +82,9 @@ pub fn put(item: [u8; 8], width: usize, dst: &mut [u8], at: usize)
     ensures { dst.new ≡ sets dst.old at (take width item) }
 {
     match width {
-        8 => put_first::<8>(&item, dst, at),
-        4 => put_first::<4>(&item, dst, at),
-        2 => put_first::<2>(&item, dst, at),
-        _ => put_first::<1>(&item, dst, at),
+        8 => put_first::<8>(item, dst, at),
+        4 => put_first::<4>(item, dst, at),
+        2 => put_first::<2>(item, dst, at),
+        _ => put_first::<1>(item, dst, at),
     }
 }

@@ -47,6 +47,7 @@ fn add_up(s: &[u8], at: usize) -> u32
 }
 
 // The rows of the sixteen runs whose counts begin at `at`, if there are so many, each count is a byte, and the rows are at most `rows`.
+#[inline(always)]
 fn group(s: &[u8], at: usize, runs: usize, rows: usize) -> Option<usize>
     ensures { IfSome result (Group s.now at runs rows) }
 {
@@ -69,15 +70,18 @@ fn group(s: &[u8], at: usize, runs: usize, rows: usize) -> Option<usize>
     Some(sum)
 }
 
-// Passes over groups of such counts from `from` on, as long as a group more is within `runs` and `rows`.
+// Passes over groups of such counts from `from` on, as long as a group more is within `runs` and `rows`. The next group is looked for at the
+// end of a step, which lets the machine code add up its bytes at once; with the look in the loop's test it adds them one by one.
 pub fn pass(s: &[u8], from: usize, runs: usize, rows: usize) -> Passed
     ensures { Passes s.now from runs rows result }
 {
     let mut passed: usize = 0;
     let mut sum: usize = 0;
-    while let Some(more) = group(s, from + passed, runs - passed, rows - sum) {
+    let mut next = group(s, from, runs, rows);
+    while let Some(more) = next {
         passed += 16;
         sum += more;
+        next = group(s, from + passed, runs - passed, rows - sum);
     }
     Passed {
         runs: passed,

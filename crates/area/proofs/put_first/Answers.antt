@@ -1,13 +1,14 @@
--- `area::put_first` meets its contract: the part that is lent holds the item's first bytes. Assumes nothing.
-use Prim.Native.Nat.{◌+◌, ◌-◌}
-use mathlib.Core.Path.{◌≡◌}
+-- `area::put_first` meets its contract. The loop's invariant is `Copying`, of the item's first bytes. Assumes nothing.
+use native.Mathlib.Nat.{zero-add}
 use native.Mathlib.Omega.{arith}
-use lib.Seq.{length-take-le}
-use Rattle.area.proofs.Laws.{put_mid-sets}
+use Rattle.area.proofs.Loops as laws
 use Rattle.area.proofs.put_first.Goals as goal
 
+pub loop-i-init : goal.loop-i-init
+loop-i-init g c = laws.copying-start _ _ _ _ _ c.requires.0
+
+pub loop-i-preserved : goal.loop-i-preserved
+loop-i-preserved g c = rw (zero-add c.loop-i.i) at (laws.copying-step c.loop-i.invariant (omega arith) (omega arith))
+
 pub returns : goal.returns
-returns g c =
-    let m : c.args.at + g.row.N - c.args.at ≡ g.row.N = omega arith in
-    let l = length-take-le g.row.N c.args.item.now (omega (arith, c.told-item, c.requires.1)) in
-    rw m (put_mid-sets c.args.at g.row.N c.args.dst.now c.copy_from_slice.new.self _ c.copy_from_slice.ensures.after l c.requires.0)
+returns g c = laws.copying-end c.loop-i.invariant (omega arith)
