@@ -57,8 +57,8 @@ module _ (d : Descriptor) (b : List ℕ) where
     pub record Kept : Type 0 where
       pub kind : Kind
       pub encoding : Encoding
-      pub column : named ≡ Some (column kind encoding)
       pub sound : column_number (Some (column kind encoding)) d.rows b ≡ 0
+      pub column : named ≡ Some (column kind encoding)
 
     pub kept : Kept
     unfolding described_number open_number column_number

@@ -54,9 +54,9 @@ module _ (d : Descriptor) (b : List ℕ) (r : ℕ) (a : Areas) where
       row : Row
       row = get_or (rows_of c.kind c.encoding d.rows b) r null
 
-      go : (t : Bool) → Left (cond t (refused_row TOO_FAR a) (shown_in k row a))
+      go : (t : Bool) → Left (cond t (refused_row TOO_FAR a) (shown_in c.kind row a))
       go true = λ h. refl
-      go false = row-left k row
+      go false = row-left c.kind row
 
   number-left : (m : ℕ) → Left (shown_by m (named d b) d.rows b r a)
   unfolding shown_by
