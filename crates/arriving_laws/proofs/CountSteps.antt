@@ -14,7 +14,7 @@ use Rattle.limits.specs.Refusals.{VARINT, COUNTS, SUM}
 use Rattle.encode.specs.declared.Kind.{Kind}
 use Rattle.encode.proofs.Bools.{clash}
 use Rattle.varint.specs.declared.Count.{Count}
-use Rattle.varint.specs.Varint.{more, count_within, in_32_bits, count_of, counted}
+use Rattle.varint.specs.Varint.{more, count_within, in_32_bits, count_of, counted as spelled}
 use Rattle.varint.proofs.Within.{more-cases}
 use Rattle.plain.specs.Rules.{◌if◌, first_of}
 use Rattle.rle.specs.RunLength.{plus, walked_past, walked, walk_number}
@@ -47,7 +47,7 @@ unfolding count_within more Unended
 alone zero h b t u p = refl
 alone (suc k) [] b t u p = go (ltb b 128) refl
   where
-    go : (c : Bool) → ltb b 128 ≡ c → cond c (counted b 1) (more (b - 128) (count_within k t)) ≡ cond c (counted b 1) (more (b - 128) (count_within k []))
+    go : (c : Bool) → ltb b 128 ≡ c → cond c (spelled b 1) (more (b - 128) (count_within k t)) ≡ cond c (spelled b 1) (more (b - 128) (count_within k []))
     go true e = refl
     go false e =
         let q = p (ltb-false b 128 e) in
@@ -70,7 +70,7 @@ unfolding count_within more Unended
 within-long zero h b u = tt
 within-long (suc k) [] b u = go (ltb b 128) k
   where
-    go : (c : Bool) (j : ℕ) → Long 1 (cond c (counted b 1) (more (b - 128) (count_within j [])))
+    go : (c : Bool) (j : ℕ) → Long 1 (cond c (spelled b 1) (more (b - 128) (count_within j [])))
     go true j = refl
     go false zero = tt
     go false (suc j) = tt
@@ -80,7 +80,7 @@ in32-long : (m : ℕ) (r : Option Count) → Long m r → Long m (in_32_bits r)
 unfolding in_32_bits
 in32-long m (Some x) h = go (ltb x.value (2 ^ 32))
   where
-    go : (c : Bool) → Long m (cond c (counted x.value x.len) None)
+    go : (c : Bool) → Long m (cond c (spelled x.value x.len) None)
     go true = h
     go false = tt
 in32-long m None h = tt

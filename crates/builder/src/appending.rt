@@ -88,7 +88,19 @@ impl Builder {
         };
         let c = self.counted;
         match append_block::to_block(
-            c, column.kind, column.encoding, items, ends, flags, counts, keys, lens, present, value, item, times,
+            c,
+            column.kind,
+            column.encoding,
+            items,
+            ends,
+            flags,
+            counts,
+            keys,
+            lens,
+            present,
+            value,
+            item,
+            times,
         ) {
             Ok(counted) => Appended {
                 number: 0,

@@ -115,7 +115,16 @@ impl Builder {
             return Err(Refusal::Room);
         }
         write_block(
-            c, column.kind, column.encoding, size, items, ends, flags, counts, keys, out,
+            c,
+            column.kind,
+            column.encoding,
+            size,
+            items,
+            ends,
+            flags,
+            counts,
+            keys,
+            out,
         );
         Ok(len)
     }

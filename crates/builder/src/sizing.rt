@@ -48,7 +48,15 @@ impl Builder {
         if needs::is_wrong(c, column.kind, column.encoding) {
             return Err(Refusal::Disagree);
         }
-        Ok(sizes::is_full(c, self.target, self.keytarget, column.kind, column.encoding, present, len))
+        Ok(sizes::is_full(
+            c,
+            self.target,
+            self.keytarget,
+            column.kind,
+            column.encoding,
+            present,
+            len,
+        ))
     }
 
     // Whether to finish before a next row: whether that row is present, and the length of its bytes.

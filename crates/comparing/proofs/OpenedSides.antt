@@ -25,8 +25,12 @@ use Rattle.comparing.specs.Taken.{Opens}
 use Rattle.comparing.proofs.Blocks.{block-walks, block-rows, block_within, block-kind, block-long, block-few}
 
 -- ---- the kind that a column's numbers name
+abbrev kind-in : Kind → Option Column → Kind
+kind-in k (Some c) = c.kind
+kind-in k None = k
+
 of-kind : {k k' : Kind} {e f : Encoding} → ◌≡◌ {A = Option Column} (Some (column k' f)) (Some (column k e)) → k' ≡ k
-of-kind q = cc
+of-kind {k = k} q = ap (kind-in k) q
 
 never-of : {k : Kind} {e : Encoding} → ◌≡◌ {A = Option Column} None (Some (column k e)) → ⊥
 never-of q = let z : ◌≡◌ {A = ℕ} 0 1 = cc in omega arith

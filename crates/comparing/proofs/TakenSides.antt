@@ -46,11 +46,12 @@ module _ (d : Descriptor) (b : List ℕ) where
 
   -- ---- refused
   pub side-refused : {m : ℕ} → Err m ≡ described_opened d b → Err m ≡ side_of d b
+  unfolding opened_by side_in
   side-refused {m} h = go (described_number d b) refl (h ∙ opened-told)
     where
       go : (n : ℕ) → described_number d b ≡ n → Err m ≡ opened_by n first → Err m ≡ side_of d b
-      go zero z q = let o : ◌≡◌ {A = ℕ} 0 1 = unfold opened_by in cc in absurd (omega arith)
-      go (suc n) z q = unfold side_in in rw z (unfold opened_by in q)
+      go zero z q = let o : ◌≡◌ {A = ℕ} 0 1 = cc in absurd (omega arith)
+      go (suc n) z q = let e : m ≡ suc n = cc in rw z (ap Err e)
 
   -- ---- opened
   module _ {o : Reader} (done : Ok o ≡ described_opened d b) where

@@ -30,11 +30,5 @@ pub fn take_damaged(d: Descriptor, block: &[u8]) -> Result<Parts, Refusal>
         return Err(Refusal::Limit);
     }
     let head = format::check_but_keys(column.kind, d.rows, block)?;
-    Ok(anatomy::take_apart(
-        column.kind,
-        Encoding::Dictionary,
-        d.rows,
-        block.len(),
-        head,
-    ))
+    Ok(anatomy::take_apart(column.kind, Encoding::Dictionary, d.rows, block.len(), head))
 }

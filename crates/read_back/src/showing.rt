@@ -1,6 +1,6 @@
 // Rows as they were read.
-use encode::Kind;
 use block::Reader;
+use encode::Kind;
 use script::{byte, first, rest, say, show, show_bytes};
 
 // Rows that are integers, as far as there are slots for so many.

@@ -62,8 +62,8 @@ returns-then-not-row_fits c =
     let run-stepped : c.run_step.result ≡ run_step c.args.kind c.args.c (held_in (areas)) (row) = c.run_step.ensures ∙ ap (run_step c.args.kind c.args.c (held_in (areas))) (passed) in
     let stepped : c.run_step.result ≡ step_of c.args.kind (runs_by c.args.nullable) c.args.c (held_in (areas)) c.args.keys.now (row) = let a = c.args in
     step-runs a.kind a.c (held_in (areas)) a.keys.now (row) a.nullable (run-stepped) in
-    let step : adds c.in-Some.found.stored c.in-Some.found.joins c.in-Some.found.key 
-        ≡ step_of c.args.kind (runs_by c.args.nullable) c.args.c (held_in (areas)) c.args.keys.now (row) = sym c.in-Some.is ∙ stepped in
+    let step : adds c.in-Some.found.stored c.in-Some.found.joins c.in-Some.found.key
+    ≡ step_of c.args.kind (runs_by c.args.nullable) c.args.c (held_in (areas)) c.args.keys.now (row) = sym c.in-Some.is ∙ stepped in
     let a = c.args in
     refused.not-fit a.kind (runs_by a.nullable) a.c (areas) a.n (row) (agrees) (step)
     (sym (c.row_fits.ensures ∙ ap (fits a.kind) (passed)) ∙ c.if-not-row_fits.true) refl
@@ -82,8 +82,8 @@ run_found-requires c =
     let agrees : disagree c.args.kind (runs_by c.args.nullable) c.args.c (room_of (areas)) ≡ false = sym c.runs_disagree.ensures ∙ c.if-runs_disagree.false in
     let stepped : c.run_step.result ≡ step_of c.args.kind (runs_by c.args.nullable) c.args.c (held_in (areas)) c.args.keys.now (row) = let a = c.args in
     step-runs a.kind a.c (held_in (areas)) a.keys.now (row) a.nullable (run-stepped) in
-    let step : adds c.in-Some.found.stored c.in-Some.found.joins c.in-Some.found.key 
-        ≡ step_of c.args.kind (runs_by c.args.nullable) c.args.c (held_in (areas)) c.args.keys.now (row) = sym c.in-Some.is ∙ stepped in
+    let step : adds c.in-Some.found.stored c.in-Some.found.joins c.in-Some.found.key
+    ≡ step_of c.args.kind (runs_by c.args.nullable) c.args.c (held_in (areas)) c.args.keys.now (row) = sym c.in-Some.is ∙ stepped in
     let fit : fits c.args.kind (row) ≡ true = sym (c.row_fits.ensures ∙ ap (fits c.args.kind) (passed)) ∙ c.if-not-row_fits.false in
     let joined : Found c.args.kind (runs_by c.args.nullable) c.args.c (areas) (row) (not c.in-Some.found.joins) c.in-Some.found.joins (pos 0) = let a = c.args in
     let f = run-found a.kind (row) a.c (held_in (areas)) c.in-Some.found.stored c.in-Some.found.joins c.in-Some.found.key (sym c.in-Some.is ∙ run-stepped) in
