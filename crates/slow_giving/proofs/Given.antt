@@ -3,7 +3,7 @@ use Prim.Native.Nat.{ℕ, ◌+◌, ◌≤◌, ◌<◌}
 use native.Mathlib.Nat.{zero-add}
 use native.Mathlib.Omega.{arith}
 use mathlib.Core.Bool.{Bool, true, false, ◌||◌}
-use mathlib.Core.List.{List, [], ◌∷◌, ◌++◌, append-nil}
+use mathlib.Core.List.{List, [], ◌∷◌, append-nil}
 use mathlib.Core.Path.{◌≡◌, refl, sym, ap, ◌∙◌}
 use borrow.Author.Tests.{lt-ltb, le-ltb}
 use lib.Dec.{ltb}
@@ -99,11 +99,6 @@ module _ (v : ℤ) (flag : ℕ) (vs : List ℤ) (fs : List ℕ) where
       (short-int k row vs fs es bs fixed ∙ or-none (le-ltb (length fs) 1 hf) (le-ltb (length vs) 1 hv))
 
 -- ---- bytes and their flag
--- an area that was copied into from its front
-pub copied_front : (bs : List ℕ) {ys item : List ℕ} {len : ℕ} → ys ≡ item → len ≡ length item → ys ++ drop len bs ≡ over bs 0 item
-unfolding over
-copied_front bs e l = rw (e, l, zero-add)
-
 pub part-long : (s : List ℕ) (from len : ℕ) → from + len ≤ length s → len ≡ length (take len (drop from s))
 part-long s from len h = sym (length-take-le len (drop from s) (simp length-drop (omega arith)))
 

@@ -54,7 +54,10 @@ fn give_bytes(
     if bytes.len() < len {
         return Err(Refusal::Room);
     }
-    bytes[..len].copy_from_slice(&s[from..from + len]);
+    // a loop: `copy_from_slice` would have the archive call `memmove`, and of the C library it calls `memset` alone
+    for i in 0..len {
+        bytes[i] = s[from + i];
+    }
     ends[0] = len as u32;
     flags[0] = flag;
     Ok(len)

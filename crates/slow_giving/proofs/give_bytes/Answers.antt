@@ -1,9 +1,11 @@
--- `give_bytes` meets its contract. Each return by the room that was tested. Assumes nothing.
-use Prim.Native.Nat.{◌+◌, ◌-◌}
-use mathlib.Core.Path.{◌≡◌}
+-- `give_bytes` meets its contract. Each return by the room that was tested. The loop's invariant is `Copying`. Assumes nothing.
+use mathlib.Core.Path.{◌∙◌}
+use Rattle.area.proofs.Laws.{over-sets}
 use native.Mathlib.Omega.{arith}
 use lib.ListN.{take, drop}
-use Rattle.slow_giving.proofs.Given.{part-long, bytes-no-flag, bytes-no-end, bytes-no-room, bytes-given, copied_front}
+use native.Mathlib.Nat.{zero-add}
+use Rattle.area.proofs.Loops.{copying-start, copying-step, copying-end}
+use Rattle.slow_giving.proofs.Given.{part-long, bytes-no-flag, bytes-no-end, bytes-no-room, bytes-given}
 use Rattle.slow_giving.proofs.give_bytes.Goals as goal
 
 pub returns-then-flags-eq0 : goal.returns-then-flags-eq0
@@ -22,10 +24,19 @@ returns-then-bytes-len c =
     bytes-no-room (take a.len (drop a.from a.s.now)) a.flag a.flags.now a.ends.now a.bytes.now
     (part-long a.s.now a.from a.len c.requires.0) (omega arith)
 
+pub loop-i-init : goal.loop-i-init
+loop-i-init c = copying-start _ _ _ _ _ (omega arith)
+
+pub loop-i-preserved : goal.loop-i-preserved
+loop-i-preserved c = rw zero-add at (copying-step c.loop-i.invariant (omega arith) (omega arith))
+
+pub shape_of-bytes : goal.shape_of-bytes
+shape_of-bytes c = c.loop-i.invariant.long
+
 pub returns : goal.returns
 returns c =
     let a = c.args in
-    let m : a.from + a.len - a.from ≡ a.len = omega arith in
     bytes-given (take a.len (drop a.from a.s.now)) a.flag a.flags.now a.ends.now a.bytes.now
     (part-long a.s.now a.from a.len c.requires.0) c.requires.1 (omega arith) (omega arith) (omega arith)
-    (copied_front a.bytes.now (rw m at c.copy_from_slice.ensures.after) (part-long a.s.now a.from a.len c.requires.0))
+    (copying-end c.loop-i.invariant (omega arith)
+    ∙ over-sets (take a.len (drop a.from a.s.now)) a.bytes.now 0 (omega (arith, part-long a.s.now a.from a.len c.requires.0)))
