@@ -23,7 +23,7 @@ use Rattle.format.specs.declared.Encoding.TheVariants.{Plain, Nullable, RunLengt
 use Rattle.format.specs.declared.Head.{Head}
 use Rattle.format.specs.contracts.Encoding.{the_type}
 use Rattle.anatomy.specs.Tests.{no_runs, runs_outside, part_outside, runs_wrong, head_wrong}
-use Rattle.anatomy.proofs.RightNumbers.{neither, Runs, runs-right}
+use Rattle.anatomy.proofs.RightNumbers.{neither, runs-right}
 
 -- ---- the bytes that items take at least
 product-few : (n w : ℕ) → n ≤ MOST_ITEMS → w ≤ 255 → n * w ≤ 255 * MOST_ITEMS

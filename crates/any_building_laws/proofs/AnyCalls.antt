@@ -13,12 +13,11 @@ use Rattle.plain.specs.Each.{Each}
 use Rattle.plain.specs.Rows.{Row, fits}
 use Rattle.format.specs.declared.Encoding.{Encoding}
 use Rattle.format.specs.declared.Encoding.TheVariants.{Dictionary}
-use Rattle.format.specs.declared.Column.TheVariants.{Of}
-use Rattle.format.specs.Blocks.{column_of, block_of}
+use Rattle.format.specs.Blocks.{column_of, block_of, column}
 use Rattle.format.specs.Sizes.{within_limits}
 use Rattle.append.specs.Appending.{Lent, room_of}
 use Rattle.builder.specs.declared.Builder.{Builder}
-use Rattle.builder.specs.declared.Created.TheVariants.{New}
+use Rattle.std.specs.Prelude.{Ok, Some}
 use Rattle.builder.specs.Building.{created}
 use Rattle.builder.specs.Finishing.{finished}
 use Rattle.building_laws.specs.Built.{Given, row_in, finish_due}
@@ -79,8 +78,8 @@ module _ (k : Kind) (e : Encoding) (target key : ℕ) where
       reached cs (accepted_by k e rows c.areas c.ask) (after r c.areas c.ask).builder (after r c.areas c.ask).areas t.next h.1
 
 -- ---- from the creation on
-module _ (kind encoding width target key : ℕ) (k : Kind) (e : Encoding) (column : column_of kind encoding width ≡ Of k e)
-    (r : Builder) (new : created kind encoding width target key ≡ New r) where
+module _ (kind encoding width target key : ℕ) (k : Kind) (e : Encoding) (column : column_of kind encoding width ≡ Some (column k e))
+    (r : Builder) (new : created kind encoding width target key ≡ Ok r) where
   agrees-with : (a : Lent) → Agrees k e target key [] r a
   agrees-with a = agrees_first kind encoding width target key k e column r new a
 

@@ -11,13 +11,12 @@ use Rattle.plain.specs.Rows.{Row, int}
 use Rattle.plain.specs.Plain.{joined, item_of}
 use Rattle.nullable.specs.Nullable.{bitmap_length}
 use Rattle.format.specs.declared.Encoding.{Encoding}
-use Rattle.format.specs.declared.Column.TheVariants.{Of}
-use Rattle.format.specs.Blocks.{column_of}
+use Rattle.format.specs.Blocks.{column_of, column}
 use Rattle.needs.specs.declared.Counted.{Counted}
 use Rattle.needs.specs.Needs.{flagged, keyed}
 use Rattle.append.specs.Appending.{Lent}
 use Rattle.builder.specs.declared.Builder.{Builder}
-use Rattle.builder.specs.declared.Created.TheVariants.{New}
+use Rattle.std.specs.Prelude.{Ok, Some}
 use Rattle.builder.specs.Building.{empty, created}
 use Rattle.building_laws.specs.Built.{stored_rows, stored_runs, end_slots, len_slots, Enough}
 use Rattle.building_laws.proofs.Records.{Recorded, stored-by}
@@ -153,8 +152,8 @@ none_needed k e a = record {
   lens = rw (no_items e) (none-long k (length a.ends) (length a.lens)).1;
 }
 
-pub agrees_first : (kind encoding width target key : ℕ) (k : Kind) (e : Encoding) → column_of kind encoding width ≡ Of k e → (r : Builder)
-    → created kind encoding width target key ≡ New r → (a : Lent) → Agrees k e target key [] r a
+pub agrees_first : (kind encoding width target key : ℕ) (k : Kind) (e : Encoding) → column_of kind encoding width ≡ Some (column k e) → (r : Builder)
+    → created kind encoding width target key ≡ Ok r → (a : Lent) → Agrees k e target key [] r a
 unfolding created
 agrees_first kind encoding width target key k e column r new a =
     let first = created-told (column_of kind encoding width) (empty kind encoding width target key) r k e column new in

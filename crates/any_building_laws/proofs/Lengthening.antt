@@ -12,13 +12,12 @@ use Rattle.plain.specs.Rows.{Row}
 use Rattle.plain.proofs.Places.{over-same}
 use Rattle.nullable.specs.Nullable.{bitmap_length, bit_at}
 use Rattle.format.specs.declared.Encoding.{Encoding}
-use Rattle.format.specs.declared.Column.TheVariants.{Of}
-use Rattle.format.specs.Blocks.{column_of}
+use Rattle.format.specs.Blocks.{column_of, column}
 use Rattle.needs.specs.declared.Counted.{Counted}
 use Rattle.needs.specs.Needs.{flagged, keyed, stored_by}
 use Rattle.append.specs.Appending.{Lent}
 use Rattle.builder.specs.declared.Builder.{Builder}
-use Rattle.builder.specs.declared.Created.TheVariants.{New}
+use Rattle.std.specs.Prelude.{Ok, Some}
 use Rattle.builder.specs.Building.{created}
 use Rattle.building_laws.specs.Built.{stored_rows, stored_runs, end_slots, len_slots, Enough}
 use Rattle.building_laws.proofs.Records.{Recorded, stored-by}
@@ -69,8 +68,8 @@ module _ (k : Kind) (e : Encoding) (target key : ℕ) where
       let t = one-call k e target key rows r c.areas (agrees-carried k e target key rows r left c.areas g p) c.ask in
       (p, all-carried cs (accepted_by k e rows c.areas c.ask) (after r c.areas c.ask).builder (after r c.areas c.ask).areas t.next h.1)
 
-module _ (kind encoding width target key : ℕ) (k : Kind) (e : Encoding) (column : column_of kind encoding width ≡ Of k e)
-    (r : Builder) (new : created kind encoding width target key ≡ New r) where
+module _ (kind encoding width target key : ℕ) (k : Kind) (e : Encoding) (column : column_of kind encoding width ≡ Some (column k e))
+    (r : Builder) (new : created kind encoding width target key ≡ Ok r) where
   pub lengthened-is-carried : (cs : List Call) → Lengthened r cs → Carried k e r cs
   lengthened-is-carried [] h = tt
   lengthened-is-carried (c ∷ cs) h =

@@ -12,13 +12,12 @@ use Rattle.encode.specs.declared.Kind.{Kind}
 use Rattle.plain.specs.Rows.{Row, fits}
 use Rattle.plain.specs.Plain.{item_of}
 use Rattle.format.specs.declared.Encoding.{Encoding}
-use Rattle.format.specs.declared.Column.TheVariants.{Of}
-use Rattle.format.specs.Blocks.{column_of}
+use Rattle.format.specs.Blocks.{column_of, column}
 use Rattle.format.specs.Sizes.{within_limits}
 use Rattle.needs.specs.declared.Room.{Room}
 use Rattle.append.specs.Appending.{Lent, room_of}
 use Rattle.builder.specs.declared.Builder.{Builder}
-use Rattle.builder.specs.declared.Created.TheVariants.{New}
+use Rattle.std.specs.Prelude.{Ok, Some}
 use Rattle.builder.specs.Building.{created}
 use Rattle.building_laws.specs.Built.{Given, row_in}
 use Rattle.any_building_laws.specs.BuilderCalls.{append, Call, appends, number_in, answer_to, after, answers, Carried, need_of, below, append_number, due}
@@ -73,8 +72,8 @@ module _ (k : Kind) (e : Encoding) (target key : ℕ) (rows : List Row) (r : Bui
       rw (p, kept, number-told (longer a more) h, short-then-done k e rows n (row_in k v) (room_of a) (room_of (longer a more)) s q)
 
 -- ---- from the creation on
-module _ (kind encoding width target key : ℕ) (k : Kind) (e : Encoding) (column : column_of kind encoding width ≡ Of k e)
-    (r : Builder) (new : created kind encoding width target key ≡ New r) where
+module _ (kind encoding width target key : ℕ) (k : Kind) (e : Encoding) (column : column_of kind encoding width ≡ Some (column k e))
+    (r : Builder) (new : created kind encoding width target key ≡ Ok r) where
   module _ (cs : List Call) (carried : Carried k e r cs) (a : Lent) (n : ℕ) (v : Given) (more : Lent) where
     there : Agrees k e target key (accepted_in k e [] cs) (after_all r a cs).builder (after_all r a cs).areas
     there = agrees-after-any-calls kind encoding width target key k e column r new cs carried a

@@ -5,14 +5,12 @@ use mathlib.Core.List.{List, [], ◌∷◌}
 use mathlib.Core.Path.{◌≡◌, refl, sym, ap, ◌∙◌}
 use lib.Dec.{eqb}
 use borrow.Author.Tests.{eqb-true}
+use Rattle.std.specs.Prelude.{Result, Ok, Some}
 use Rattle.encode.specs.declared.Kind.{Kind}
 use Rattle.format.specs.declared.Encoding.{Encoding}
-use Rattle.format.specs.declared.Column.TheVariants.{Of}
-use Rattle.format.specs.Blocks.{column_of}
+use Rattle.format.specs.Blocks.{column_of, column}
 use Rattle.format.specs.Opening.{open_number, rows_of}
 use Rattle.block.specs.declared.Reader.{Reader}
-use Rattle.block.specs.declared.Opened.{Opened}
-use Rattle.block.specs.declared.Opened.TheVariants.{Open}
 use Rattle.block.specs.Reading.{opened}
 use Rattle.block.specs.Calls.{Call, Answer, answer_to, after, play, play_opened}
 use Rattle.reading_laws.specs.Calls.{expected}
@@ -54,16 +52,16 @@ module _ (places : ℕ → Place) (j : ℕ) (b : List ℕ) where
   -- So a block that was opened where it lies is read as any calls on it alone are: its rows, and nothing else in memory, tell the answers.
   pub read-exactly :
       (kind encoding width n : ℕ) (memory : List ℕ) → bytes_at (places j) memory ≡ b
-      → (readers : ℕ → Reader) → opened kind encoding width n (bytes_at (places j) memory) ≡ Open (readers j)
-      → (k : Kind) (e : Encoding) → column_of kind encoding width ≡ Of k e
+      → (readers : ℕ → Reader) → opened kind encoding width n (bytes_at (places j) memory) ≡ Ok (readers j)
+      → (k : Kind) (e : Encoding) → column_of kind encoding width ≡ Some (column k e)
       → (steps : List Step) → Holding j (places j) b steps
       → answers_of j (told places readers steps) ≡ expected k (rows_of k e n b) (calls_on j steps)
   unfolding play_opened
   read-exactly kind encoding width n memory held readers o k e c steps h =
-      let here : opened kind encoding width n b ≡ Open (readers j) = ap (opened kind encoding width n) (sym held) ∙ o in
+      let here : opened kind encoding width n b ≡ Ok (readers j) = ap (opened kind encoding width n) (sym held) ∙ o in
       let z : open_number kind encoding width n b ≡ 0 = (opened-by-number kind encoding width n b).0 (readers j, here) in
       as-if-alone steps h readers
-      ∙ ap (λ (x : Opened). play_opened x b (calls_on j steps)) (sym here)
+      ∙ ap (λ (x : Result Reader ℕ). play_opened x b (calls_on j steps)) (sym here)
       ∙ any-calls kind encoding width n b k e z c (calls_on j steps)
 
 -- Opening, too, comes from the bytes of the block's place alone: two memories that hold the same there give the same record or the same refusal.

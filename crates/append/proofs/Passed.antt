@@ -32,8 +32,7 @@ use Rattle.needs.specs.Tests.{runs_by}
 use Rattle.needs.proofs.Encodings.{runs-stored, keys-stored, keys-keyed}
 use Rattle.needs.proofs.Short.{fitting}
 use Rattle.needs.proofs.Wrong.{right, bytes-right, agree}
-use Rattle.step.specs.declared.Next.{Next}
-use Rattle.step.specs.Counting.{grown, counted_by}
+use Rattle.step.specs.Counting.{Next, grown, counted_by}
 use Rattle.step.proofs.Steps.{step-says, step_fits}
 use Rattle.append.specs.Appending.{Lent, lent, room_of, held_in, laid, added_to, added_with, added_by, added}
 use Rattle.append.specs.Asking.{Stores, Found}

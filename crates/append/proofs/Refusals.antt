@@ -3,6 +3,7 @@ use Prim.Native.Nat.{ℕ}
 use mathlib.Core.Bool.{Bool, true, false, cond, not}
 use mathlib.Core.Path.{◌≡◌, refl}
 use lib.ListN.{length}
+use Rattle.std.specs.Prelude.{Option, Some, None}
 use Rattle.limits.specs.Refusals.{ITEM, LIMIT, ROOM, DISAGREE}
 use Rattle.encode.specs.declared.Kind.{Kind}
 use Rattle.plain.specs.Rows.{Row, fits}
@@ -12,7 +13,6 @@ use Rattle.format.specs.declared.Encoding.{Encoding}
 use Rattle.needs.specs.declared.Counted.{Counted}
 use Rattle.needs.specs.Needs.{past_limits, too_short, disagree}
 use Rattle.step.specs.declared.Step.{Step}
-use Rattle.step.specs.declared.Step.TheVariants.{Row as Adds, Wrong}
 use Rattle.step.specs.Steps.{step_of}
 use Rattle.step.specs.Counting.{grown, next_of}
 use Rattle.append.specs.Appending.{Lent, room_of, held_in, laid, Added, added_to, added_with, added_by, added}
@@ -34,12 +34,12 @@ module _ (r : Counted) (a : Lent) where
   with-keeps k e next after =
       either (past_limits k e next) _ _ (refusal LIMIT) (either (too_short k e next (room_of a)) _ _ (refusal ROOM) (λ h. absurd (h refl)))
 
-  by-keeps : (k : Kind) (e : Encoding) (row : Row) (s : Step) → Keeps (added_by k e r a row s)
+  by-keeps : (k : Kind) (e : Encoding) (row : Row) (s : Option Step) → Keeps (added_by k e r a row s)
   unfolding added_by
-  by-keeps k e row Wrong = refusal DISAGREE
-  by-keeps k e row (Adds item joins key) =
+  by-keeps k e row None = refusal DISAGREE
+  by-keeps k e row (Some s) =
       either (not (fits k row)) _ _ (refusal ITEM)
-      (with-keeps k e (grown e r (presence row) (length (item_of k row)) item joins) (laid k e r row item joins key a))
+      (with-keeps k e (grown e r (presence row) (length (item_of k row)) s.stored s.joins) (laid k e r row s.stored s.joins s.key a))
 
   pub added-keeps : (k : Kind) (e : Encoding) (row : Row) → Keeps (added k e r a row)
   unfolding added

@@ -1,5 +1,5 @@
 -- 01, "Building": append as a function of what is counted, the row and what the lent areas hold, for any numbers and all memory. Assumes nothing.
-use Rattle.std.specs.Prelude.{ℕ, ◌+◌, Bool, cond, not, ◌&&◌, List, ℤ, length, set}
+use Rattle.std.specs.Prelude.{ℕ, ◌+◌, Option, Some, None, Bool, cond, not, ◌&&◌, List, ℤ, length, set}
 use Rattle.limits.specs.Refusals.{ITEM, LIMIT, ROOM, DISAGREE}
 use Rattle.area.specs.Area.{over}
 use Rattle.encode.specs.declared.Kind.{Kind}
@@ -13,10 +13,8 @@ use Rattle.needs.specs.declared.Counted.{Counted}
 use Rattle.needs.specs.declared.Room.{Room}
 use Rattle.needs.specs.Needs.{coded, flagged, keyed, stored_by, past_limits, too_short, disagree}
 use Rattle.step.specs.declared.Step.{Step}
-use Rattle.step.specs.declared.Step.TheVariants.{Row as Adds, Wrong}
-use Rattle.step.specs.declared.Next.{Next}
 use Rattle.step.specs.Steps.{step_of}
-use Rattle.step.specs.Counting.{grown, next_of}
+use Rattle.step.specs.Counting.{Next, grown, next_of}
 
 -- the six lent areas: items (fixed and char items at their width, blob data), blob ends, flag bytes, run counts, keys of runs, char lengths
 pub record Lent : Type 0 where
@@ -71,11 +69,11 @@ added_with k e r a next after =
     (cond (too_short k e next (room_of a)) (added_to (next_of ROOM r) a)
     (added_to (next_of 0 next) after))
 
-unfoldable pub added_by : Kind → Encoding → Counted → Lent → Row → Step → Added
-added_by k e r a row Wrong = added_to (next_of DISAGREE r) a
-added_by k e r a row (Adds item joins key) =
+unfoldable pub added_by : Kind → Encoding → Counted → Lent → Row → Option Step → Added
+added_by k e r a row None = added_to (next_of DISAGREE r) a
+added_by k e r a row (Some s) =
     cond (not (fits k row)) (added_to (next_of ITEM r) a)
-    (added_with k e r a (grown e r (presence row) (length (item_of k row)) item joins) (laid k e r row item joins key a))
+    (added_with k e r a (grown e r (presence row) (length (item_of k row)) s.stored s.joins) (laid k e r row s.stored s.joins s.key a))
 
 unfoldable pub added : Kind → Encoding → Counted → Lent → Row → Added
 added k e r a row =

@@ -7,8 +7,7 @@ use Rattle.plain.specs.Plain.{item_of}
 use Rattle.format.specs.declared.Encoding.{Encoding}
 use Rattle.needs.specs.declared.Counted.{Counted}
 use Rattle.needs.specs.Needs.{disagree}
-use Rattle.step.specs.declared.Step.TheVariants.{Row as Adds}
-use Rattle.step.specs.Steps.{step_of}
+use Rattle.step.specs.Steps.{adds, step_of}
 use Rattle.append.specs.Appending.{Lent, room_of, held_in}
 
 -- the slots that a row is written into, as stored item i at a place, are there
@@ -24,5 +23,5 @@ pub record Stores (k : Kind) (nullable : Bool) (i at : ℕ) (row : Row) (len : �
 -- the numbers and the areas agree, what the row comes to is found, and it fits
 pub record Found (k : Kind) (e : Encoding) (r : Counted) (a : Lent) (row : Row) (item joins : Bool) (key : ℤ) : Type 0 where
   pub agrees : disagree k e r (room_of a) ≡ false
-  pub step : Adds item joins key ≡ step_of k e r (held_in a) a.keys row
+  pub step : adds item joins key ≡ step_of k e r (held_in a) a.keys row
   pub fit : fits k row ≡ true

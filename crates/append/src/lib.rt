@@ -7,19 +7,9 @@ ghost use Rattle.plain.specs.Rows.{row_of, bytes_in};
 ghost use Rattle.plain.specs.Plain.{item_of};
 ghost use Rattle.nullable.specs.Nullable.{presence};
 ghost use Rattle.slots.specs.Slots.{ends_with, lens_with, flags_with};
-ghost use Rattle.step.specs.Counting.{next_of};
 ghost use Rattle.append.specs.Asking.{Stores};
 
 use encode::Kind;
-use needs::Counted;
-use step::Next;
-
-// A refusal: its number, and what was counted as it was.
-pub fn refused(number: u8, c: Counted) -> Next
-    ensures { result ≡ next_of number c }
-{
-    Next { number, counted: c }
-}
 
 // The slots of a row that is stored, which are there: item `i` at `at`.
 pub fn write_stored(

@@ -3,13 +3,14 @@
 
 ghost use Rattle.std.specs.Prelude.{◌≡◌};
 ghost use Rattle.plain.specs.Rows.{row_of};
+ghost use Rattle.step.specs.Counting.{answered};
 ghost use Rattle.append.specs.Appending.{lent, added_to};
 ghost use Rattle.copies.specs.Copies.{added_times};
 
 use encode::Kind;
 use format::Encoding;
+use limits::refusal::Refusal;
 use needs::Counted;
-use step::Next;
 
 // Appends one row n times to a block of an encoding: whether it is present, its integer for a fixed kind, its bytes for char, blob and string.
 pub fn to_block(
@@ -26,8 +27,8 @@ pub fn to_block(
     value: i64,
     item: &[u8],
     n: usize,
-) -> Next
-    ensures { added_to result (lent items.new ends.new flags.new counts.new keys.new lens.new)
+) -> Result<Counted, Refusal>
+    ensures { added_to (answered c result) (lent items.new ends.new flags.new counts.new keys.new lens.new)
         ≡ added_times kind encoding c (lent items.old ends.old flags.old counts.old keys.old lens.old)
         n (row_of kind present value item.now) }
 {

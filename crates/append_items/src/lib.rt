@@ -7,14 +7,15 @@ ghost use Rattle.std.specs.Prelude.{◌≡◌, true, false, pos, length};
 ghost use Rattle.plain.specs.Rows.{row_of};
 ghost use Rattle.plain.specs.Plain.{item_of};
 ghost use Rattle.needs.specs.Tests.{rows_by};
+ghost use Rattle.step.specs.Counting.{answered};
 ghost use Rattle.append.specs.Appending.{lent, added_to, added};
 ghost use Rattle.append.specs.Asking.{Found};
 ghost use Rattle.copies.specs.Copies.{added_times};
 
 use encode::Kind;
 use format::Encoding;
+use limits::refusal::Refusal;
 use needs::{Counted, Room};
-use step::Next;
 
 fn rows_by(nullable: bool) -> Encoding
     ensures { result ≡ rows_by nullable }
@@ -40,10 +41,10 @@ fn one_row(
     value: i64,
     item: &[u8],
     len: usize,
-) -> Next
+) -> Result<Counted, Refusal>
     requires { Found kind (rows_by nullable) c (lent items.old ends.old flags.old counts.now keys.now lens.old) (row_of kind present value item.now) true false (pos 0)
         × (len ≡ length (item_of kind (row_of kind present value item.now))) }
-    ensures { added_to result (lent items.new ends.new flags.new counts.now keys.now lens.new)
+    ensures { added_to (answered c result) (lent items.new ends.new flags.new counts.now keys.now lens.new)
         ≡ added kind (rows_by nullable) c (lent items.old ends.old flags.old counts.now keys.now lens.old)
         (row_of kind present value item.now) }
 {
@@ -55,10 +56,7 @@ fn one_row(
         keys: keys.len(),
         lens: lens.len(),
     };
-    let next = step::row_counted(c, kind, nullable, room, len);
-    if next.number != 0 {
-        return next;
-    }
+    let next = step::row_counted(c, kind, nullable, room, len)?;
     slots::write_item(
         kind,
         nullable,
@@ -73,7 +71,7 @@ fn one_row(
         flags,
         lens,
     );
-    next
+    Ok(next)
 }
 
 // The same n times; more or less than one go together.
@@ -92,10 +90,10 @@ fn row_found(
     item: &[u8],
     len: usize,
     n: usize,
-) -> Next
+) -> Result<Counted, Refusal>
     requires { Found kind (rows_by nullable) c (lent items.old ends.old flags.old counts.old keys.old lens.old) (row_of kind present value item.now) true false (pos 0)
         × (len ≡ length (item_of kind (row_of kind present value item.now))) }
-    ensures { added_to result (lent items.new ends.new flags.new counts.new keys.new lens.new)
+    ensures { added_to (answered c result) (lent items.new ends.new flags.new counts.new keys.new lens.new)
         ≡ added_times kind (rows_by nullable) c (lent items.old ends.old flags.old counts.old keys.old lens.old)
         n (row_of kind present value item.now) }
 {
@@ -143,8 +141,8 @@ pub fn to_rows(
     value: i64,
     item: &[u8],
     n: usize,
-) -> Next
-    ensures { added_to result (lent items.new ends.new flags.new counts.new keys.new lens.new)
+) -> Result<Counted, Refusal>
+    ensures { added_to (answered c result) (lent items.new ends.new flags.new counts.new keys.new lens.new)
         ≡ added_times kind (rows_by nullable) c (lent items.old ends.old flags.old counts.old keys.old lens.old)
         n (row_of kind present value item.now) }
 {
@@ -157,10 +155,10 @@ pub fn to_rows(
         lens: lens.len(),
     };
     if needs::rows_disagree(c, kind, nullable, room) {
-        return append::refused(limits::refusal::DISAGREE, c);
+        return Err(Refusal::Disagree);
     }
     if !slots::row_fits(kind, present, value, item) {
-        return append::refused(limits::refusal::ITEM, c);
+        return Err(Refusal::Item);
     }
     let len = slots::item_len(kind, present, value, item);
     row_found(

@@ -5,14 +5,15 @@ ghost use Rattle.std.specs.Prelude.{◌≡◌, length};
 ghost use Rattle.plain.specs.Rows.{row_of};
 ghost use Rattle.plain.specs.Plain.{item_of};
 ghost use Rattle.format.specs.declared.Encoding.TheVariants.{Dictionary};
+ghost use Rattle.step.specs.Counting.{answered};
 ghost use Rattle.append.specs.Appending.{lent, added_to, added};
 ghost use Rattle.append.specs.Asking.{Found};
 ghost use Rattle.copies.specs.Copies.{added_times};
 
 use encode::Kind;
 use format::Encoding;
+use limits::refusal::Refusal;
 use needs::{Counted, Room};
-use step::{Next, Step};
 
 // A row that is found: counted in and written.
 fn one_key(
@@ -31,10 +32,10 @@ fn one_key(
     joins: bool,
     key: i32,
     len: usize,
-) -> Next
+) -> Result<Counted, Refusal>
     requires { Found kind Dictionary c (lent items.old ends.old flags.old counts.old keys.old lens.old) (row_of kind present value item.now) stored joins key
         × (len ≡ length (item_of kind (row_of kind present value item.now))) }
-    ensures { added_to result (lent items.new ends.new flags.new counts.new keys.new lens.new)
+    ensures { added_to (answered c result) (lent items.new ends.new flags.new counts.new keys.new lens.new)
         ≡ added kind Dictionary c (lent items.old ends.old flags.old counts.old keys.old lens.old)
         (row_of kind present value item.now) }
 {
@@ -46,16 +47,13 @@ fn one_key(
         keys: keys.len(),
         lens: lens.len(),
     };
-    let next = step::key_counted(c, kind, room, present, len, stored, joins);
-    if next.number != 0 {
-        return next;
-    }
+    let next = step::key_counted(c, kind, room, present, len, stored, joins)?;
     append::write_stored(
         kind, false, c.entries, c.bytes, stored, len, present, value, item, items, ends, flags,
         lens,
     );
     slots::write_run(true, c.runs, c.last, joins, key, counts, keys);
-    next
+    Ok(next)
 }
 
 // The same n times; more or less than one go together.
@@ -76,10 +74,10 @@ fn key_found(
     key: i32,
     len: usize,
     n: usize,
-) -> Next
+) -> Result<Counted, Refusal>
     requires { Found kind Dictionary c (lent items.old ends.old flags.old counts.old keys.old lens.old) (row_of kind present value item.now) stored joins key
         × (len ≡ length (item_of kind (row_of kind present value item.now))) }
-    ensures { added_to result (lent items.new ends.new flags.new counts.new keys.new lens.new)
+    ensures { added_to (answered c result) (lent items.new ends.new flags.new counts.new keys.new lens.new)
         ≡ added_times kind Dictionary c (lent items.old ends.old flags.old counts.old keys.old lens.old)
         n (row_of kind present value item.now) }
 {
@@ -126,8 +124,8 @@ pub fn to_keys(
     value: i64,
     item: &[u8],
     n: usize,
-) -> Next
-    ensures { added_to result (lent items.new ends.new flags.new counts.new keys.new lens.new)
+) -> Result<Counted, Refusal>
+    ensures { added_to (answered c result) (lent items.new ends.new flags.new counts.new keys.new lens.new)
         ≡ added_times kind Dictionary c (lent items.old ends.old flags.old counts.old keys.old lens.old)
         n (row_of kind present value item.now) }
 {
@@ -140,18 +138,31 @@ pub fn to_keys(
         lens: lens.len(),
     };
     if needs::keys_disagree(c, kind, room) {
-        return append::refused(limits::refusal::DISAGREE, c);
+        return Err(Refusal::Disagree);
     }
-    let found = step::key_step(c, kind, items, ends, lens, keys, present, value, item);
-    let Step::Row { stored, joins, key } = found else {
-        return append::refused(limits::refusal::DISAGREE, c);
+    let Some(found) = step::key_step(c, kind, items, ends, lens, keys, present, value, item) else {
+        return Err(Refusal::Disagree);
     };
     if !slots::row_fits(kind, present, value, item) {
-        return append::refused(limits::refusal::ITEM, c);
+        return Err(Refusal::Item);
     }
     let len = slots::item_len(kind, present, value, item);
     key_found(
-        c, kind, items, ends, flags, counts, keys, lens, present, value, item, stored, joins, key,
-        len, n,
+        c,
+        kind,
+        items,
+        ends,
+        flags,
+        counts,
+        keys,
+        lens,
+        present,
+        value,
+        item,
+        found.stored,
+        found.joins,
+        found.key,
+        len,
+        n,
     )
 }

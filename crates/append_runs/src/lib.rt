@@ -5,14 +5,15 @@ ghost use Rattle.std.specs.Prelude.{◌≡◌, not, pos, length};
 ghost use Rattle.plain.specs.Rows.{row_of};
 ghost use Rattle.plain.specs.Plain.{item_of};
 ghost use Rattle.needs.specs.Tests.{runs_by};
+ghost use Rattle.step.specs.Counting.{answered};
 ghost use Rattle.append.specs.Appending.{lent, added_to, added};
 ghost use Rattle.append.specs.Asking.{Found};
 ghost use Rattle.copies.specs.Copies.{added_times};
 
 use encode::Kind;
 use format::Encoding;
+use limits::refusal::Refusal;
 use needs::{Counted, Room};
-use step::{Next, Step};
 
 fn runs_by(nullable: bool) -> Encoding
     ensures { result ≡ runs_by nullable }
@@ -39,10 +40,10 @@ fn one_run(
     item: &[u8],
     joins: bool,
     len: usize,
-) -> Next
+) -> Result<Counted, Refusal>
     requires { Found kind (runs_by nullable) c (lent items.old ends.old flags.old counts.old keys.old lens.old) (row_of kind present value item.now) (not joins) joins (pos 0)
         × (len ≡ length (item_of kind (row_of kind present value item.now))) }
-    ensures { added_to result (lent items.new ends.new flags.new counts.new keys.new lens.new)
+    ensures { added_to (answered c result) (lent items.new ends.new flags.new counts.new keys.new lens.new)
         ≡ added kind (runs_by nullable) c (lent items.old ends.old flags.old counts.old keys.old lens.old)
         (row_of kind present value item.now) }
 {
@@ -54,16 +55,13 @@ fn one_run(
         keys: keys.len(),
         lens: lens.len(),
     };
-    let next = step::run_counted(c, kind, nullable, room, present, len, !joins, joins);
-    if next.number != 0 {
-        return next;
-    }
+    let next = step::run_counted(c, kind, nullable, room, present, len, !joins, joins)?;
     append::write_stored(
         kind, nullable, c.runs, c.bytes, !joins, len, present, value, item, items, ends, flags,
         lens,
     );
     slots::write_run(false, c.runs, c.last, joins, 0, counts, keys);
-    next
+    Ok(next)
 }
 
 // The same n times; more or less than one go together.
@@ -83,10 +81,10 @@ fn run_found(
     joins: bool,
     len: usize,
     n: usize,
-) -> Next
+) -> Result<Counted, Refusal>
     requires { Found kind (runs_by nullable) c (lent items.old ends.old flags.old counts.old keys.old lens.old) (row_of kind present value item.now) (not joins) joins (pos 0)
         × (len ≡ length (item_of kind (row_of kind present value item.now))) }
-    ensures { added_to result (lent items.new ends.new flags.new counts.new keys.new lens.new)
+    ensures { added_to (answered c result) (lent items.new ends.new flags.new counts.new keys.new lens.new)
         ≡ added_times kind (runs_by nullable) c (lent items.old ends.old flags.old counts.old keys.old lens.old)
         n (row_of kind present value item.now) }
 {
@@ -134,8 +132,8 @@ pub fn to_runs(
     value: i64,
     item: &[u8],
     n: usize,
-) -> Next
-    ensures { added_to result (lent items.new ends.new flags.new counts.new keys.new lens.new)
+) -> Result<Counted, Refusal>
+    ensures { added_to (answered c result) (lent items.new ends.new flags.new counts.new keys.new lens.new)
         ≡ added_times kind (runs_by nullable) c (lent items.old ends.old flags.old counts.old keys.old lens.old)
         n (row_of kind present value item.now) }
 {
@@ -148,18 +146,30 @@ pub fn to_runs(
         lens: lens.len(),
     };
     if needs::runs_disagree(c, kind, nullable, room) {
-        return append::refused(limits::refusal::DISAGREE, c);
+        return Err(Refusal::Disagree);
     }
-    let found = step::run_step(c, kind, items, ends, lens, present, value, item);
-    let Step::Row { joins, .. } = found else {
-        return append::refused(limits::refusal::DISAGREE, c);
+    let Some(found) = step::run_step(c, kind, items, ends, lens, present, value, item) else {
+        return Err(Refusal::Disagree);
     };
     if !slots::row_fits(kind, present, value, item) {
-        return append::refused(limits::refusal::ITEM, c);
+        return Err(Refusal::Item);
     }
     let len = slots::item_len(kind, present, value, item);
     run_found(
-        c, kind, nullable, items, ends, flags, counts, keys, lens, present, value, item, joins,
-        len, n,
+        c,
+        kind,
+        nullable,
+        items,
+        ends,
+        flags,
+        counts,
+        keys,
+        lens,
+        present,
+        value,
+        item,
+        found.joins,
+        len,
+        n,
     )
 }

@@ -19,11 +19,9 @@ use Rattle.needs.specs.declared.Counted.{Counted}
 use Rattle.needs.specs.declared.Room.{Room}
 use Rattle.needs.specs.Needs.{coded, keyed, counts_past, past_limits, record_wrong, too_short}
 use Rattle.needs.proofs.Limits.{within}
-use Rattle.step.specs.declared.Step.TheVariants.{Row as Adds}
-use Rattle.step.specs.declared.Next.{Next}
-use Rattle.step.specs.Steps.{step_of}
-use Rattle.step.specs.Counting.{grown, next_of, counted_by}
-use Rattle.step.proofs.Steps.{step-says, some}
+use Rattle.step.specs.Steps.{adds, step_of}
+use Rattle.step.specs.Counting.{Next, grown, next_of, counted_by}
+use Rattle.step.proofs.Steps.{adds_same, step-says, some}
 use Rattle.append.specs.Appending.{Lent, room_of, held_in, added_to, added_with}
 use Rattle.append.specs.Asking.{Found}
 use Rattle.append.proofs.Passed.{are-right, presence-of, limits-kept, with-refused}
@@ -106,9 +104,9 @@ module _ (k : Kind) (e : Encoding) (r : Counted) (a : Lent) (n : ℕ) (row : Row
   unfolding step_of coded
   each-stored c = go e c f.step
     where
-      go : (e : Encoding) → coded e ≡ false → Adds item joins key ≡ step_of k e r (held_in a) a.keys row → (item ≡ true) × (joins ≡ false)
-      go Plain c q = (cc, cc)
-      go Nullable c q = (cc, cc)
+      go : (e : Encoding) → coded e ≡ false → adds item joins key ≡ step_of k e r (held_in a) a.keys row → (item ≡ true) × (joins ≡ false)
+      go Plain c q = let s = adds_same q in (s.0, s.1)
+      go Nullable c q = let s = adds_same q in (s.0, s.1)
       go RunLength c q = clash c
       go RunLengthNullable c q = clash c
       go Dictionary c q = clash c

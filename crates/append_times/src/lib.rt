@@ -6,7 +6,7 @@ ghost use Rattle.limits.specs.Limits.{MOST_COUNT};
 ghost use Rattle.plain.specs.Rows.{row_of};
 ghost use Rattle.plain.specs.Plain.{item_of};
 ghost use Rattle.needs.specs.Needs.{coded, keyed, record_wrong};
-ghost use Rattle.step.specs.Counting.{grown, counted_by};
+ghost use Rattle.step.specs.Counting.{answered, grown, counted_by};
 ghost use Rattle.append.specs.Appending.{lent, added_to};
 ghost use Rattle.append.specs.Asking.{Found};
 ghost use Rattle.copies.specs.Copies.{added_times};
@@ -14,10 +14,10 @@ ghost use Rattle.copies.specs.Stretch.{grown_times};
 
 use encode::Kind;
 use format::Encoding;
+use limits::refusal::Refusal;
 use needs::{Counted, Room};
-use step::Next;
 
-// The numbers with all n rows counted in, 3 or 4.
+// The numbers with all n rows counted in, or that they pass a limit or have no room.
 fn all_taken(
     c: Counted,
     kind: Kind,
@@ -28,19 +28,16 @@ fn all_taken(
     stored: bool,
     joins: bool,
     n: usize,
-) -> Next
+) -> Result<Counted, Refusal>
     requires { (record_wrong kind e c ≡ false) × (0 < n) × (joins ≡ true → (0 < c.runs) × (c.last < MOST_COUNT)) × (keyed e ≡ false → stored ≡ not joins)
         × (coded e ≡ false → (stored ≡ true) × (joins ≡ false)) }
-    ensures { result ≡ counted_by kind e c room (grown_times e (cond present 1 0) len (n - 1) (grown e c (cond present 1 0) len stored joins)) }
+    ensures { answered c result ≡ counted_by kind e c room (grown_times e (cond present 1 0) len (n - 1) (grown e c (cond present 1 0) len stored joins)) }
 {
-    let all = copies::all_counted(c, kind, e, present, len, stored, joins, n);
-    if all.number != 0 {
-        return all;
+    let all = copies::all_counted(c, kind, e, present, len, stored, joins, n)?;
+    if needs::is_short(all, kind, e, room) {
+        return Err(Refusal::Room);
     }
-    if needs::is_short(all.counted, kind, e, room) {
-        return append::refused(limits::refusal::ROOM, c);
-    }
-    all
+    Ok(all)
 }
 
 // Nothing is written before it is found that all n rows are taken.
@@ -62,15 +59,15 @@ pub fn several(
     key: i32,
     len: usize,
     n: usize,
-) -> Next
+) -> Result<Counted, Refusal>
     requires { Found kind e c (lent items.old ends.old flags.old counts.old keys.old lens.old) (row_of kind present value item.now) stored joins key
         × (len ≡ length (item_of kind (row_of kind present value item.now))) }
-    ensures { added_to result (lent items.new ends.new flags.new counts.new keys.new lens.new)
+    ensures { added_to (answered c result) (lent items.new ends.new flags.new counts.new keys.new lens.new)
         ≡ added_times kind e c (lent items.old ends.old flags.old counts.old keys.old lens.old)
         n (row_of kind present value item.now) }
 {
     if n == 0 {
-        return append::refused(0, c);
+        return Ok(c);
     }
     let room = Room {
         items: items.len(),
@@ -80,13 +77,9 @@ pub fn several(
         keys: keys.len(),
         lens: lens.len(),
     };
-    let next = all_taken(c, kind, e, room, present, len, stored, joins, n);
-    if next.number != 0 {
-        return next;
-    }
-    let counted = written_times::write_all(
+    all_taken(c, kind, e, room, present, len, stored, joins, n)?;
+    Ok(written_times::write_all(
         c, kind, e, items, ends, flags, counts, keys, lens, present, value, item, stored, joins,
         key, len, n,
-    );
-    Next { number: 0, counted }
+    ))
 }

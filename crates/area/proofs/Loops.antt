@@ -10,19 +10,19 @@ use lib.Seq.{sets, length-sets, drop-cons, length-take-le}
 use Rattle.area.specs.Area.{repeats, climbs}
 use Rattle.area.proofs.Laws.{sets-append}
 
--- ---- `fill_values`, `fill_bytes`: what is still to be stored, laid over what is there, is the answer
-pub record Filling (A : Type 0) (dst₀ : List A) (at n : ℕ) (x : A) (dst : List A) (i : ℕ) : Type 0 where
+-- ---- `fill`: what is still to be stored, laid over what is there, is the answer
+pub record Filling {A : Type 0} (dst₀ : List A) (at n : ℕ) (x : A) (dst : List A) (i : ℕ) : Type 0 where
   pub same : sets dst i (replicate (at + n - i) x) ≡ sets dst₀ at (replicate n x)
   pub hi : i ≤ at + n
   pub room : at + n ≤ length dst
   pub long : length dst ≡ length dst₀
 
 module _ {A : Type 0} where
-  pub filling-start : (dst : List A) (at n : ℕ) (x : A) → at + n ≤ length dst → Filling A dst at n x dst at
+  pub filling-start : (dst : List A) (at n : ℕ) (x : A) → at + n ≤ length dst → Filling dst at n x dst at
   filling-start dst at n x r = let m : at + n - at ≡ n = omega arith in record { same = rw m; hi = omega arith; room = r; long = refl }
 
-  module _ {dst₀ : List A} {at n : ℕ} {x : A} {dst : List A} {i : ℕ} (f : Filling A dst₀ at n x dst i) where
-    pub filling_step : i < at + n → Filling A dst₀ at n x (set dst i x) (i + 1)
+  module _ {dst₀ : List A} {at n : ℕ} {x : A} {dst : List A} {i : ℕ} (f : Filling dst₀ at n x dst i) where
+    pub filling_step : i < at + n → Filling dst₀ at n x (set dst i x) (i + 1)
     filling_step h =
         let m : at + n - i ≡ suc (at + n - (i + 1)) = omega arith in
         record {
@@ -34,6 +34,9 @@ module _ {A : Type 0} where
 
     pub filling-end : at + n ≤ i → dst ≡ sets dst₀ at (replicate n x)
     filling-end h = let m : at + n - i ≡ 0 = omega arith in rw m at f.same
+
+part_length : (src : List ℕ) (from n : ℕ) → from + n ≤ length src → length (take n (drop from src)) ≡ n
+part_length src from n h = length-take-le n (drop from src) (simp length-drop (omega arith))
 
 -- ---- `copy`
 pub record Copying (src : List ℕ) (from n : ℕ) (dst₀ : List ℕ) (at : ℕ) (dst : List ℕ) (i : ℕ) : Type 0 where
@@ -70,9 +73,6 @@ pub record Repeating (src : List ℕ) (from n : ℕ) (dst₀ : List ℕ) (at tim
   pub room : to + left * n ≤ length dst
   pub long : length dst ≡ length dst₀
 
-part_length : (src : List ℕ) (from n : ℕ) → from + n ≤ length src → length (take n (drop from src)) ≡ n
-part_length src from n h = length-take-le n (drop from src) (simp length-drop (omega arith))
-
 -- a product falls by its second factor when the first falls by one
 one_less : (left d : ℕ) → 0 < left → left * d ≡ d + (left - 1) * d
 one_less zero d h = absurd (omega arith)
@@ -82,6 +82,11 @@ repeat-more : (left : ℕ) (xs : List ℕ) → 0 < left → repeats left xs ≡ 
 unfolding repeats
 repeat-more zero xs h = absurd (omega arith)
 repeat-more (suc k) xs h = let m : suc k - 1 ≡ k = omega arith in rw m
+
+pub repeating-start : (src : List ℕ) (from n : ℕ) (dst : List ℕ) (at times : ℕ) → at + times * n ≤ length dst
+    → Repeating src from n dst at times dst (times - 0) at
+repeating-start src from n dst at times h =
+    let m : times - 0 ≡ times = omega arith in rw m (record { same = refl; room = h; long = refl })
 
 module _ {src : List ℕ} {from n : ℕ} {dst₀ : List ℕ} {at times : ℕ} {dst : List ℕ} {left to : ℕ} (c : Repeating src from n dst₀ at times dst left to) where
   pub repeating-room : 0 < left → to + n ≤ length dst
@@ -115,6 +120,11 @@ climb-more : (left end step : ℕ) → 0 < left → climbs left end step ≡ (en
 unfolding climbs
 climb-more zero end step h = absurd (omega arith)
 climb-more (suc k) end step h = let m : suc k - 1 ≡ k = omega arith in rw m
+
+pub climbing-start : (dst : List ℕ) (at n start step : ℕ) → at + n ≤ length dst → start + n * step < 2 ^ 32
+    → Climbing dst at n start step dst (at + n - at) at start
+climbing-start dst at n start step r h =
+    let m : at + n - at ≡ n = omega arith in rw m (record { same = refl; room = r; small = h; long = refl })
 
 module _ {dst₀ : List ℕ} {at n start step : ℕ} {dst : List ℕ} {left i end : ℕ} (c : Climbing dst₀ at n start step dst left i end) where
   pub climbing-small : 0 < left → end + step < 2 ^ 32

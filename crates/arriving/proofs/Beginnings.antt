@@ -13,8 +13,7 @@ use Rattle.format.specs.declared.Encoding.{Encoding}
 use Rattle.format.specs.declared.Encoding.TheVariants.{Plain, Nullable, RunLength, RunLengthNullable, Dictionary}
 use Rattle.format.specs.Opening.{most_rows}
 use Rattle.format.specs.contracts.Encoding.{the_type}
-use Rattle.arriving.specs.declared.Stage.{Stage}
-use Rattle.arriving.specs.declared.Stage.TheVariants.{Done, KeyLength, RunHead}
+use Rattle.arriving.specs.Stages.{Stage, Done, KeyLength, RunHead}
 use Rattle.arriving.specs.Arriving.{plain_from, nullable_from, no_runs, runs_from, keys_from, inner_from, began_by, began}
 
 -- ---- a run-length block of no bytes

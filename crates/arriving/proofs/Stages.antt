@@ -18,8 +18,7 @@ use Rattle.nullable.specs.Nullable.{bitmap_length}
 use Rattle.format.specs.declared.Encoding.{Encoding}
 use Rattle.format.specs.declared.Encoding.TheVariants.{Plain, Nullable, RunLength, RunLengthNullable, Dictionary}
 use Rattle.format.specs.contracts.Encoding.{the_type}
-use Rattle.arriving.specs.declared.Stage.{Stage}
-use Rattle.arriving.specs.declared.Stage.TheVariants.{Done, Keys, Ends, Chars, Trailer}
+use Rattle.arriving.specs.Stages.{Stage, Done, Keys, Ends, Chars, Trailer}
 use Rattle.arriving.specs.Arriving.{trailed, settled, ends_from, chars_from, plain_from, nullable_from, keys_from}
 
 -- ---- the trailer: the encodings that each arm names

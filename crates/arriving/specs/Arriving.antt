@@ -1,6 +1,6 @@
 -- 02 (x): a block checked as it arrives, byte by byte: what is waited for (a stage, and the bytes of an unfinished field), and what the next byte makes of it.
 -- That the verdict at the end is opening's, for every cutting, is a theorem (arriving_laws). Assumes nothing.
-use Rattle.std.specs.Prelude.{ℕ, zero, suc, ◌+◌, ◌-◌, ◌*◌, Bool, true, false, cond, not, ◌&&◌, ◌||◌, List, [], ◌∷◌, ◌++◌, ltb, leb, eqb, length, take, drop}
+use Rattle.std.specs.Prelude.{ℕ, zero, suc, ◌+◌, ◌-◌, ◌*◌, Bool, true, false, cond, not, ◌&&◌, ◌||◌, List, [], ◌∷◌, ◌++◌, ltb, leb, eqb, length, take, drop, Option, Some, None}
 use Rattle.limits.specs.Limits.{MOST_ITEMS, MOST_ENTRIES, MOST_BYTES}
 use Rattle.limits.specs.Refusals.{LIMIT, CUT, LENGTH, VARINT, COUNTS, ENDS, KEY, SUM, TEXT}
 use Rattle.encode.specs.Bytes.{number, number_of, high-first}
@@ -8,7 +8,6 @@ use Rattle.encode.specs.Kinds.{width_of}
 use Rattle.encode.specs.declared.Kind.{Kind}
 use Rattle.encode.specs.declared.Kind.TheVariants.{Fixed, Char, Blob}
 use Rattle.varint.specs.declared.Count.{Count}
-use Rattle.varint.specs.declared.Count.TheVariants.{Number, Bad}
 use Rattle.varint.specs.Varint.{count_of}
 use Rattle.utf8.specs.Utf8.{Due, due, never, after}
 use Rattle.plain.specs.Rules.{◌if◌}
@@ -17,8 +16,7 @@ use Rattle.dict.specs.Dictionary.{slot_at}
 use Rattle.format.specs.declared.Encoding.{Encoding}
 use Rattle.format.specs.declared.Encoding.TheVariants.{Plain, Nullable, RunLength, RunLengthNullable, Dictionary}
 use Rattle.format.specs.Opening.{most_rows}
-use Rattle.arriving.specs.declared.Stage.{Stage}
-use Rattle.arriving.specs.declared.Stage.TheVariants.{Done, KeyLength, Entries, RunHead, Counts, Keys, Ends, Chars, Trailer}
+use Rattle.arriving.specs.Stages.{Stage, Done, KeyLength, Entries, RunHead, Counts, Keys, Ends, Chars, Trailer}
 
 -- what is waited for: a stage, and the bytes of a field of it that have come
 pub record Waiting : Type 0 where
@@ -135,13 +133,13 @@ acted k e n rest (Chars left at ended bits) f = Chars left at ended bits
 acted k e n rest (Trailer bits later) f = Done (cond (eqb (number f) bits) later LENGTH)
 
 -- ---- a byte of the counts: a count ends with the first byte below 128, and with the fifth; the part ends with its last byte
-unfoldable pub count_read : Kind → Encoding → ℕ → ℕ → (inner runs left more sum entries : ℕ) → Count → Stage
-count_read k e n rest inner runs left more sum entries Bad = Done VARINT
-count_read k e n rest inner runs left more sum entries (Number v len) =
-    cond (eqb v 0) (Done COUNTS)
+unfoldable pub count_read : Kind → Encoding → ℕ → ℕ → (inner runs left more sum entries : ℕ) → Option Count → Stage
+count_read k e n rest inner runs left more sum entries None = Done VARINT
+count_read k e n rest inner runs left more sum entries (Some c) =
+    cond (eqb c.value 0) (Done COUNTS)
     (cond (eqb more 1)
-    (cond (eqb left 0) (cond (eqb (sum + v) n) (inner_from k e runs inner entries rest) (Done SUM)) (Done COUNTS))
-    (cond (eqb left 0) (Done COUNTS) (Counts inner runs left (more - 1) (sum + v) entries)))
+    (cond (eqb left 0) (cond (eqb (sum + c.value) n) (inner_from k e runs inner entries rest) (Done SUM)) (Done COUNTS))
+    (cond (eqb left 0) (Done COUNTS) (Counts inner runs left (more - 1) (sum + c.value) entries)))
 
 unfoldable pub counted : Kind → Encoding → ℕ → ℕ → (inner runs left more sum entries : ℕ) → List ℕ → ℕ → Waiting
 counted k e n rest inner runs left more sum entries held b =

@@ -3,20 +3,21 @@
 
 ghost use Rattle.std.specs.Prelude.{◌≡◌, not, ◌*◌, ◌≤◌, eqb};
 ghost use Rattle.limits.specs.Limits.{MOST_ITEMS, MOST_ENTRIES};
-ghost use Rattle.limits.specs.Refusals.{LENGTH};
+ghost use Rattle.limits.specs.Refusals.{LENGTH, number_in};
 ghost use Rattle.plain.specs.Rules.{◌if◌};
 ghost use Rattle.format.specs.Opening.{most_rows};
+ghost use Rattle.arriving.specs.Stages.{stage_of};
 ghost use Rattle.arriving.specs.Arriving.{trailed as trailed_in, settled as settled_by, ends_from, chars_from, plain_from, nullable_from, no_runs, runs_from, began_by, began as began_of, keys_from, inner_from};
 
 use encode::Kind;
 use format::Encoding;
-use limits::refusal;
+use limits::refusal::Refusal;
 
 // The stage that it is in. Bytes of an unfinished field stand beside it.
 #[derive(Clone, Copy)]
 pub enum Stage {
     // the verdict is known, and what comes is counted alone
-    Done(u8),
+    Done(Result<(), Refusal>),
     // a dictionary: the length of its key block, in eight bytes
     KeyLength,
     // and the number of its entries, in four
@@ -59,7 +60,7 @@ pub enum Stage {
     // a nullable block: the four bytes at its end, and what the plain rules said
     Trailer {
         bits: usize,
-        later: u8,
+        later: Result<(), Refusal>,
     },
 }
 
@@ -76,8 +77,8 @@ fn trailed(e: Encoding) -> bool
 }
 
 // What the plain rules said is the verdict, or waits for the trailer.
-pub fn settled(e: Encoding, bits: usize, v: u8) -> Stage
-    ensures { result ≡ settled_by e bits v }
+pub fn settled(e: Encoding, bits: usize, v: Result<(), Refusal>) -> Stage
+    ensures { stage_of result ≡ settled_by e bits (number_in v) }
 {
     if trailed(e) {
         return Stage::Trailer { bits, later: v };
@@ -87,13 +88,13 @@ pub fn settled(e: Encoding, bits: usize, v: u8) -> Stage
 
 // So many ends more.
 pub fn ends_from(e: Encoding, bits: usize, n: usize, last: usize, long: usize) -> Stage
-    ensures { result ≡ ends_from e bits n last long }
+    ensures { stage_of result ≡ ends_from e bits n last long }
 {
     if n == 0 {
         if last == long {
-            return settled(e, bits, 0);
+            return settled(e, bits, Ok(()));
         }
-        return settled(e, bits, refusal::LENGTH);
+        return settled(e, bits, Err(Refusal::Length));
     }
     Stage::Ends {
         left: n,
@@ -105,10 +106,10 @@ pub fn ends_from(e: Encoding, bits: usize, n: usize, last: usize, long: usize) -
 
 // So many bytes more of char items.
 pub fn chars_from(e: Encoding, bits: usize, n: usize, at: usize, ended: bool) -> Stage
-    ensures { result ≡ chars_from e bits n at ended }
+    ensures { stage_of result ≡ chars_from e bits n at ended }
 {
     if n == 0 {
-        return settled(e, bits, 0);
+        return settled(e, bits, Ok(()));
     }
     Stage::Chars {
         left: n,
@@ -119,33 +120,30 @@ pub fn chars_from(e: Encoding, bits: usize, n: usize, at: usize, ended: bool) ->
 }
 
 // Items one after another, of `w` bytes each, have to fill the length.
-fn filled(n: usize, w: usize, len: usize) -> u8
+fn filled(n: usize, w: usize, len: usize) -> Result<(), Refusal>
     requires { (n ≤ MOST_ITEMS) × (w ≤ 255) }
-    ensures { result ≡ (LENGTH if not (eqb len (n * w))) }
+    ensures { number_in result ≡ (LENGTH if not (eqb len (n * w))) }
 {
     if len == n * w {
-        return 0;
+        return Ok(());
     }
-    refusal::LENGTH
+    Err(Refusal::Length)
 }
 
 // A plain block of so many items in the next `len` bytes.
 pub fn plain_from(kind: Kind, e: Encoding, bits: usize, n: usize, len: usize) -> Stage
     requires { n ≤ MOST_ITEMS }
-    ensures { result ≡ plain_from kind e bits n len }
+    ensures { stage_of result ≡ plain_from kind e bits n len }
 {
     match kind {
         Kind::Fixed(p) => settled(e, bits, filled(n, p.width(), len)),
-        Kind::Char(w) => {
-            let number = filled(n, w as usize, len);
-            if number != 0 {
-                return settled(e, bits, number);
-            }
-            chars_from(e, bits, len, 0, false)
-        }
+        Kind::Char(w) => match filled(n, w as usize, len) {
+            Ok(()) => chars_from(e, bits, len, 0, false),
+            Err(refusal) => settled(e, bits, Err(refusal)),
+        },
         Kind::Blob(_) => {
             if len < 4 * n {
-                return settled(e, bits, refusal::CUT);
+                return settled(e, bits, Err(Refusal::Cut));
             }
             ends_from(e, bits, n, 0, len - 4 * n)
         }
@@ -155,16 +153,16 @@ pub fn plain_from(kind: Kind, e: Encoding, bits: usize, n: usize, len: usize) ->
 // A nullable one: whether bitmap and trailer fit is known already, but the trailer's own rule comes first.
 pub fn nullable_from(kind: Kind, e: Encoding, n: usize, len: usize) -> Stage
     requires { n ≤ MOST_ITEMS }
-    ensures { result ≡ nullable_from kind e n len }
+    ensures { stage_of result ≡ nullable_from kind e n len }
 {
     let bits = nullable::bitmap_len(n);
     if len < 4 {
-        return Stage::Done(refusal::CUT);
+        return Stage::Done(Err(Refusal::Cut));
     }
     if len < bits + 4 {
         return Stage::Trailer {
             bits,
-            later: refusal::CUT,
+            later: Err(Refusal::Cut),
         };
     }
     plain_from(kind, e, bits, n, len - (bits + 4))
@@ -173,12 +171,12 @@ pub fn nullable_from(kind: Kind, e: Encoding, n: usize, len: usize) -> Stage
 // A run-length block of no bytes, which has no rows.
 fn no_runs(kind: Kind, e: Encoding, entries: usize, rest: usize) -> Stage
     requires { entries ≤ MOST_ENTRIES }
-    ensures { result ≡ no_runs kind e entries rest }
+    ensures { stage_of result ≡ no_runs kind e entries rest }
 {
     match e {
         Encoding::Dictionary => plain_from(kind, e, 0, entries, rest),
         Encoding::Plain | Encoding::Nullable | Encoding::RunLength | Encoding::RunLengthNullable =>
-            Stage::Done(0),
+            Stage::Done(Ok(())),
     }
 }
 
@@ -192,16 +190,16 @@ pub fn runs_from(
     rest: usize,
 ) -> Stage
     requires { entries ≤ MOST_ENTRIES }
-    ensures { result ≡ runs_from kind e n size entries rest }
+    ensures { stage_of result ≡ runs_from kind e n size entries rest }
 {
     if size == 0 {
         if n == 0 {
             return no_runs(kind, e, entries, rest);
         }
-        return Stage::Done(refusal::SUM);
+        return Stage::Done(Err(Refusal::Sum));
     }
     if size < 8 {
-        return Stage::Done(refusal::CUT);
+        return Stage::Done(Err(Refusal::Cut));
     }
     Stage::RunHead { size, entries }
 }
@@ -209,7 +207,7 @@ pub fn runs_from(
 // So many keys more, and behind them the entries.
 pub fn keys_from(kind: Kind, n: usize, entries: usize, rest: usize) -> Stage
     requires { entries ≤ MOST_ENTRIES }
-    ensures { result ≡ keys_from kind n entries rest }
+    ensures { stage_of result ≡ keys_from kind n entries rest }
 {
     if n == 0 {
         return plain_from(kind, Encoding::Dictionary, 0, entries, rest);
@@ -227,15 +225,15 @@ pub fn inner_from(
     rest: usize,
 ) -> Stage
     requires { (runs ≤ MOST_ITEMS) × (entries ≤ MOST_ENTRIES) }
-    ensures { result ≡ inner_from kind e runs inner entries rest }
+    ensures { stage_of result ≡ inner_from kind e runs inner entries rest }
 {
     match e {
-        Encoding::Plain | Encoding::Nullable => Stage::Done(0),
+        Encoding::Plain | Encoding::Nullable => Stage::Done(Ok(())),
         Encoding::RunLength => plain_from(kind, e, 0, runs, inner),
         Encoding::RunLengthNullable => nullable_from(kind, e, runs, inner),
         Encoding::Dictionary => {
             if inner != 4 * runs {
-                return Stage::Done(refusal::LENGTH);
+                return Stage::Done(Err(Refusal::Length));
             }
             keys_from(kind, runs, entries, rest)
         }
@@ -246,7 +244,7 @@ pub fn inner_from(
 
 fn began_by(kind: Kind, e: Encoding, n: usize, total: usize) -> Stage
     requires { n ≤ most_rows e }
-    ensures { result ≡ began_by kind e n total }
+    ensures { stage_of result ≡ began_by kind e n total }
 {
     match e {
         Encoding::Plain => plain_from(kind, e, 0, n, total),
@@ -254,7 +252,7 @@ fn began_by(kind: Kind, e: Encoding, n: usize, total: usize) -> Stage
         Encoding::RunLength | Encoding::RunLengthNullable => runs_from(kind, e, n, total, 0, total),
         Encoding::Dictionary => {
             if total < 12 {
-                return Stage::Done(refusal::CUT);
+                return Stage::Done(Err(Refusal::Cut));
             }
             Stage::KeyLength
         }
@@ -263,13 +261,13 @@ fn began_by(kind: Kind, e: Encoding, n: usize, total: usize) -> Stage
 
 // What is known of a block of so many rows from its length.
 pub fn began(kind: Kind, e: Encoding, n: usize, total: usize) -> Stage
-    ensures { result ≡ began_of kind e n total }
+    ensures { stage_of result ≡ began_of kind e n total }
 {
     if limits::MOST_BYTES < total {
-        return Stage::Done(refusal::LIMIT);
+        return Stage::Done(Err(Refusal::Limit));
     }
     if format::most_rows(e) < n {
-        return Stage::Done(refusal::LIMIT);
+        return Stage::Done(Err(Refusal::Limit));
     }
     began_by(kind, e, n, total)
 }

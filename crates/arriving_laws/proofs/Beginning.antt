@@ -1,4 +1,5 @@
 -- Before the first byte: what is owed is the number that opening gives, and the stage fits the bytes to come. Assumes nothing.
+use Rattle.std.specs.Prelude.{Some}
 use Prim.Native.Nat.{ℕ}
 use native.Mathlib.Nat.{add-zero}
 use native.Mathlib.Omega.{arith}
@@ -17,14 +18,14 @@ use Rattle.plain.specs.Plain.{plain_number}
 use Rattle.dict.specs.Dictionary.{dictionary_rules, dictionary_number}
 use Rattle.format.specs.declared.Encoding.{Encoding}
 use Rattle.format.specs.declared.Encoding.TheVariants.{Plain, Nullable, RunLength, RunLengthNullable, Dictionary}
-use Rattle.format.specs.declared.Column.TheVariants.{Of}
 use Rattle.format.specs.Opening.{most_rows, rules_of, column_number}
 use Rattle.format.proofs.Answers.{first_one}
-use Rattle.arriving.specs.declared.Stage.TheVariants.{Done, KeyLength}
+use Rattle.arriving.specs.Stages.{Done, KeyLength}
 use Rattle.arriving.specs.Arriving.{trailed, began_by, began}
 use Rattle.arriving_laws.specs.Owed.{trailed_by, runs_owed, owed_by, tail_of, coded, Fits, Checked}
 use Rattle.arriving_laws.proofs.Plains.{plain-owed, plain_fits, nullable-owed, nullable-fits}
 use Rattle.arriving_laws.proofs.Heads.{runs-owed, runs-fits}
+use Rattle.format.specs.Blocks.{column}
 
 -- ---- by the encoding
 begun-owed : (k : Kind) (e : Encoding) (n : ℕ) (b : List ℕ) → Checked k → owed_by k e n (began_by k e n (length b)) [] b ≡ rules_of k e n b
@@ -52,7 +53,7 @@ begun-fits k Dictionary n m c = go (ltb m 12) refl
     go false h = let l = ltb-false m 12 h in (refl, omega arith, omega arith)
 
 -- ---- with the limits before
-pub began-owed : (k : Kind) (e : Encoding) (n : ℕ) (b : List ℕ) → Checked k → owed_by k e n (began k e n (length b)) [] b ≡ column_number (Of k e) n b
+pub began-owed : (k : Kind) (e : Encoding) (n : ℕ) (b : List ℕ) → Checked k → owed_by k e n (began k e n (length b)) [] b ≡ column_number (Some (column k e)) n b
 unfolding began column_number owed_by first_of
 began-owed k e n b c = go (ltb MOST_BYTES (length b)) (ltb (most_rows e) n)
   where

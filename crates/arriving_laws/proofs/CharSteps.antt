@@ -15,7 +15,7 @@ use Rattle.encode.proofs.Bools.{clash}
 use Rattle.utf8.specs.Utf8.{Due, due, never, after}
 use Rattle.plain.specs.Rules.{◌if◌}
 use Rattle.format.specs.declared.Encoding.{Encoding}
-use Rattle.arriving.specs.declared.Stage.TheVariants.{Chars}
+use Rattle.arriving.specs.Stages.{Chars}
 use Rattle.arriving.specs.Arriving.{Waiting, waiting, settled, chars_from, item_ends, text_read, char_read, width_in, stepped_by}
 use Rattle.arriving_laws.specs.Owed.{Place, on, bad, place_behind, sequence_behind, is_on, next_place, places_behind, text_from, trailed_by, tail_of, Begun, owed_by, owed, Fits}
 use Rattle.arriving_laws.proofs.Fields.{trailed-behind}

@@ -1,4 +1,5 @@
 -- A byte of the counts: the verdict that is owed stays the same, and what a check keeps holds. Assumes nothing.
+use Rattle.std.specs.Prelude.{Option, Some, None, Result, Ok, Err}
 use Prim.Native.Nat.{ℕ, zero, suc, ◌+◌, ◌-◌, ◌^◌, ◌≤◌, ◌<◌}
 use native.Mathlib.Nat.{add-zero, zero-add}
 use native.Mathlib.Omega.{arith}
@@ -13,19 +14,15 @@ use Rattle.limits.specs.Refusals.{VARINT, COUNTS, SUM}
 use Rattle.encode.specs.declared.Kind.{Kind}
 use Rattle.encode.proofs.Bools.{clash}
 use Rattle.varint.specs.declared.Count.{Count}
-use Rattle.varint.specs.declared.Count.TheVariants.{Number, Bad}
-use Rattle.varint.specs.Varint.{more, count_within, in_32_bits, count_of}
+use Rattle.varint.specs.Varint.{more, count_within, in_32_bits, count_of, counted as spelled}
 use Rattle.varint.proofs.Within.{more-cases}
 use Rattle.plain.specs.Rules.{◌if◌, first_of}
-use Rattle.rle.specs.declared.Walked.{Walked}
-use Rattle.rle.specs.declared.Walked.TheVariants.{Total, Refused}
 use Rattle.rle.specs.RunLength.{plus, walked_past, walked, walk_number}
 use Rattle.rle.proofs.Walking.{plus-plus}
 use Rattle.format.specs.declared.Encoding.{Encoding}
 use Rattle.format.specs.declared.Encoding.TheVariants.{Dictionary}
 use Rattle.format.proofs.Answers.{first_one}
-use Rattle.arriving.specs.declared.Stage.{Stage}
-use Rattle.arriving.specs.declared.Stage.TheVariants.{Done, Counts}
+use Rattle.arriving.specs.Stages.{Stage, Done, Counts}
 use Rattle.arriving.specs.Arriving.{Waiting, waiting, inner_from, count_read, counted, stepped_by}
 use Rattle.arriving_laws.specs.Owed.{inner_owed, owed_by, owed, Unended, coded, Fits, Checked}
 use Rattle.arriving_laws.proofs.Steps.{StepOwed, StepFits}
@@ -33,7 +30,7 @@ use Rattle.arriving_laws.proofs.Heads.{inner-owed, inner-fits}
 
 -- ---- the bytes of a count
 -- bytes that all go on are no count
-unended-bad : (k : ℕ) (h : List ℕ) → Unended h → count_within k h ≡ Bad
+unended-bad : (k : ℕ) (h : List ℕ) → Unended h → count_within k h ≡ None
 unfolding count_within more Unended
 unended-bad zero h u = refl
 unended-bad (suc k) [] u = refl
@@ -50,7 +47,7 @@ unfolding count_within more Unended
 alone zero h b t u p = refl
 alone (suc k) [] b t u p = go (ltb b 128) refl
   where
-    go : (c : Bool) → ltb b 128 ≡ c → cond c (Number b 1) (more (b - 128) (count_within k t)) ≡ cond c (Number b 1) (more (b - 128) (count_within k []))
+    go : (c : Bool) → ltb b 128 ≡ c → cond c (spelled b 1) (more (b - 128) (count_within k t)) ≡ cond c (spelled b 1) (more (b - 128) (count_within k []))
     go true e = refl
     go false e =
         let q = p (ltb-false b 128 e) in
@@ -58,45 +55,45 @@ alone (suc k) [] b t u p = go (ltb b 128) refl
         rw z
 alone (suc k) (x ∷ h) b t u p = rw (alone k h b t u.1 (λ (q : 128 ≤ b). let i = p q in omega arith))
 
--- and a number has all its bytes; of Bad nothing is said
-abbrev Long : ℕ → Count → Type 0
-Long m (Number v n) = n ≡ m
-Long m Bad = Unit
+-- and a number has all its bytes; of None nothing is said
+abbrev Long : ℕ → Option Count → Type 0
+Long m (Some c) = c.len ≡ m
+Long m None = Unit
 
-more-long : (low m : ℕ) (r : Count) → Long m r → Long (suc m) (more low r)
+more-long : (low m : ℕ) (r : Option Count) → Long m r → Long (suc m) (more low r)
 unfolding more
-more-long low m (Number v n) h = more-cases (Long (suc m)) low v n tt (λ z. omega arith)
-more-long low m Bad h = tt
+more-long low m (Some c) h = more-cases (Long (suc m)) low c.value c.len tt (λ z. omega arith)
+more-long low m None h = tt
 
 within-long : (k : ℕ) (h : List ℕ) (b : ℕ) → Unended h → Long (suc (length h)) (count_within k (h ++ (b ∷ [])))
 unfolding count_within more Unended
 within-long zero h b u = tt
 within-long (suc k) [] b u = go (ltb b 128) k
   where
-    go : (c : Bool) (j : ℕ) → Long 1 (cond c (Number b 1) (more (b - 128) (count_within j [])))
+    go : (c : Bool) (j : ℕ) → Long 1 (cond c (spelled b 1) (more (b - 128) (count_within j [])))
     go true j = refl
     go false zero = tt
     go false (suc j) = tt
 within-long (suc k) (x ∷ h) b u = rw (le-ltb x 128 u.0) (more-long (x - 128) (suc (length h)) (count_within k (h ++ (b ∷ []))) (within-long k h b u.1))
 
-in32-long : (m : ℕ) (r : Count) → Long m r → Long m (in_32_bits r)
+in32-long : (m : ℕ) (r : Option Count) → Long m r → Long m (in_32_bits r)
 unfolding in_32_bits
-in32-long m (Number v n) h = go (ltb v (2 ^ 32))
+in32-long m (Some x) h = go (ltb x.value (2 ^ 32))
   where
-    go : (c : Bool) → Long m (cond c (Number v n) Bad)
+    go : (c : Bool) → Long m (cond c (spelled x.value x.len) None)
     go true = h
     go false = tt
-in32-long m Bad h = tt
+in32-long m None h = tt
 
 -- so the walk goes on behind its last byte
-past-long : (m : ℕ) (h : List ℕ) (b : ℕ) (t : List ℕ) (r : Count) → Long (suc (length h)) r
+past-long : (m : ℕ) (h : List ℕ) (b : ℕ) (t : List ℕ) (r : Option Count) → Long (suc (length h)) r
     → walked_past r (λ len. walked m (drop len (h ++ (b ∷ t)))) ≡ walked_past r (λ len. walked m t)
 unfolding walked_past
-past-long m h b t (Number v n) e =
-    let i : n ≡ length h + 1 = omega arith in
-    let d : drop n (h ++ (b ∷ t)) ≡ t = rw i (drop-append-add h (b ∷ t) 1) in
+past-long m h b t (Some c) e =
+    let i : c.len ≡ length h + 1 = omega arith in
+    let d : drop c.len (h ++ (b ∷ t)) ≡ t = rw i (drop-append-add h (b ∷ t) 1) in
     rw d
-past-long m h b t Bad e = refl
+past-long m h b t None e = refl
 
 walked-first : (m : ℕ) (h : List ℕ) (b : ℕ) (t : List ℕ)
     → walked (suc m) (h ++ (b ∷ t)) ≡ walked_past (count_of (h ++ (b ∷ t))) (λ len. walked m (drop len (h ++ (b ∷ t))))
@@ -110,11 +107,11 @@ walked-ended : (m : ℕ) (h : List ℕ) (b : ℕ) (t : List ℕ) → Unended h �
 unfolding count_of
 walked-ended m h b t u p =
     walked-first m h b t
-    ∙ ap (λ (r : Count). walked_past (in_32_bits r) (λ len. walked m (drop len (h ++ (b ∷ t))))) (alone 5 h b t u (λ (q : 128 ≤ b). let i = p q in omega arith))
+    ∙ ap (λ (r : Option Count). walked_past (in_32_bits r) (λ len. walked m (drop len (h ++ (b ∷ t))))) (alone 5 h b t u (λ (q : 128 ≤ b). let i = p q in omega arith))
     ∙ past-long m h b t (count_of (h ++ (b ∷ []))) (in32-long (suc (length h)) (count_within 5 (h ++ (b ∷ []))) (within-long 5 h b u))
 
 -- the counts' part ends inside one
-walked-cut : (m : ℕ) (h : List ℕ) (b : ℕ) → Unended h → 128 ≤ b → walked (suc m) (h ++ (b ∷ [])) ≡ Refused VARINT
+walked-cut : (m : ℕ) (h : List ℕ) (b : ℕ) → Unended h → 128 ≤ b → walked (suc m) (h ++ (b ∷ [])) ≡ Err VARINT
 unfolding count_of in_32_bits walked_past
 walked-cut m h b u p = walked-first m h b [] ∙ rw (unended-bad 5 (h ++ (b ∷ [])) (unended-snoc h b u p))
 
@@ -129,12 +126,12 @@ module _ (k : Kind) (e : Encoding) (n : ℕ) (c : Checked k) where
     Room l = (l + inner ≤ length bs) × ((e ≡ Dictionary → ⊥) → l + inner ≡ length bs)
 
     -- what is owed if the walk over the counts comes to this
-    abbrev after : ℕ → Walked → ℕ
+    abbrev after : ℕ → Result ℕ ℕ → ℕ
     after l w = first_of (walk_number n w ∷ inner_owed k e runs inner entries (drop l bs) ∷ [])
 
     -- behind the last count, where the sum is right or not
     last-owed : (total : ℕ) → Room 0
-        → after 0 (Total total) ≡ owed_by k e n (cond (eqb total n) (inner_from k e runs inner entries (length bs)) (Done SUM)) [] bs
+        → after 0 (Ok total) ≡ owed_by k e n (cond (eqb total n) (inner_from k e runs inner entries (length bs)) (Done SUM)) [] bs
     unfolding first_of walk_number owed_by
     last-owed total r = go (eqb total n)
       where
@@ -182,27 +179,27 @@ module _ (k : Kind) (e : Encoding) (n : ℕ) (c : Checked k) where
         (is_coded, omega arith, omega arith, omega arith, tt, r.0, r.1)
 
     -- ... and any count, also a bad one or 0
-    read-owed : (l m sum : ℕ) (c : Count) → Room l
+    read-owed : (l m sum : ℕ) (c : Option Count) → Room l
         → after l (plus sum (walked_past c (λ len. walked m (take l bs))))
         ≡ owed_by k e n (count_read k e n (length bs) inner runs l (suc m) sum entries c) [] bs
     unfolding first_of walk_number walked_past plus count_read owed_by
-    read-owed l m sum Bad r = refl
-    read-owed l m sum (Number v len) r = go (eqb v 0)
+    read-owed l m sum None r = refl
+    read-owed l m sum (Some c) r = go (eqb c.value 0)
       where
         go : (t : Bool)
-            → after l (plus sum (cond t (Refused COUNTS) (plus v (walked m (take l bs))))) ≡ owed_by k e n (cond t (Done COUNTS) (next l m (sum + v))) [] bs
+            → after l (plus sum (cond t (Err COUNTS) (plus c.value (walked m (take l bs))))) ≡ owed_by k e n (cond t (Done COUNTS) (next l m (sum + c.value))) [] bs
         go true = refl
-        go false = ap (after l) (plus-plus sum v (walked m (take l bs))) ∙ next-owed l m (sum + v) r
+        go false = ap (after l) (plus-plus sum c.value (walked m (take l bs))) ∙ next-owed l m (sum + c.value) r
 
-    read_fits : (l m sum : ℕ) (c : Count) → Room l
+    read_fits : (l m sum : ℕ) (c : Option Count) → Room l
         → Fits k e (count_read k e n (length bs) inner runs l (suc m) sum entries c) [] (length bs)
     unfolding count_read Fits
-    read_fits l m sum Bad r = refl
-    read_fits l m sum (Number v len) r = go (eqb v 0)
+    read_fits l m sum None r = refl
+    read_fits l m sum (Some c) r = go (eqb c.value 0)
       where
-        go : (t : Bool) → Fits k e (cond t (Done COUNTS) (next l m (sum + v))) [] (length bs)
+        go : (t : Bool) → Fits k e (cond t (Done COUNTS) (next l m (sum + c.value))) [] (length bs)
         go true = refl
-        go false = next_fits l m (sum + v) r
+        go false = next_fits l m (sum + c.value) r
 
     -- a byte behind those held of its count
     module _ (held : List ℕ) (b : ℕ) (u : Unended held) (few : length held < 5) where
@@ -255,7 +252,7 @@ module _ (k : Kind) (e : Encoding) (n : ℕ) (c : Checked k) where
           go : (t : Bool) → ends ≡ t
               → after l (plus sum (walked (suc m) (held ++ (b ∷ take l bs)))) ≡ owed k e n (cond t (ended l m sum) (longer l m sum)) bs
           go true q =
-              ap (λ (w : Walked). after l (plus sum w)) (walked-ended m held b (take l bs) u (ends-true q))
+              ap (λ (w : Result ℕ ℕ). after l (plus sum w)) (walked-ended m held b (take l bs) u (ends-true q))
               ∙ read-owed l m sum (count_of (held ++ (b ∷ []))) r
           go false q = longer-owed l m sum (ends-false q).0
 

@@ -1,4 +1,5 @@
 -- 02 (x): how a block is cut into pieces makes no difference, and the verdict behind the last of them is opening's. Assumes nothing.
+use Rattle.std.specs.Prelude.{Some}
 use Prim.Native.Nat.{ℕ, suc, ◌-◌}
 use native.Mathlib.Omega.{arith}
 use mathlib.Core.List.{List, [], ◌∷◌, ◌++◌}
@@ -7,13 +8,13 @@ use lib.ListN.{length}
 use Rattle.encode.specs.declared.Kind.{Kind}
 use Rattle.plain.specs.Plain.{joined}
 use Rattle.format.specs.declared.Encoding.{Encoding}
-use Rattle.format.specs.declared.Column.TheVariants.{Of}
 use Rattle.format.specs.Opening.{column_number}
-use Rattle.arriving.specs.declared.Stage.TheVariants.{Done}
+use Rattle.arriving.specs.Stages.{Done}
 use Rattle.arriving.specs.Arriving.{Waiting, waiting, began, stepped, fed}
 use Rattle.arriving_laws.specs.Owed.{Checked}
 use Rattle.arriving_laws.specs.Cuttings.{together, fed_all}
 use Rattle.arriving_laws.proofs.Whole.{whole-verdict}
+use Rattle.format.specs.Blocks.{column}
 
 module _ (k : Kind) (e : Encoding) (n : ℕ) where
   -- ---- two pieces
@@ -40,7 +41,7 @@ module _ (k : Kind) (e : Encoding) (n : ℕ) where
 -- ---- the theorem: a block in any pieces
 pub pieces-verdict :
     (k : Kind) (e : Encoding) (n : ℕ) (b : List ℕ) (pieces : List (List ℕ)) → Checked k → together pieces ≡ b
-    → fed_all k e n (length b) (waiting (began k e n (length b)) []) pieces ≡ waiting (Done (column_number (Of k e) n b)) []
+    → fed_all k e n (length b) (waiting (began k e n (length b)) []) pieces ≡ waiting (Done (column_number (Some (column k e)) n b)) []
 pieces-verdict k e n b pieces c h =
     fed-together k e n (length b) start pieces ∙ ap (fed k e n (length b) start) h ∙ whole-verdict k e n b c
   where

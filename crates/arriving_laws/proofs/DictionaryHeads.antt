@@ -19,7 +19,7 @@ use Rattle.dict.specs.Dictionary.{i32, key_length, entries_in, key_part, entries
 use Rattle.format.specs.declared.Encoding.{Encoding}
 use Rattle.format.specs.declared.Encoding.TheVariants.{Dictionary}
 use Rattle.format.proofs.Answers.{first_one}
-use Rattle.arriving.specs.declared.Stage.TheVariants.{Done, KeyLength, Entries}
+use Rattle.arriving.specs.Stages.{Done, KeyLength, Entries}
 use Rattle.arriving.specs.Arriving.{Waiting, runs_from, field_of, acted, stepped_by}
 use Rattle.arriving_laws.specs.Owed.{keys_then, owed_by, owed, coded, Fits, Checked}
 use Rattle.arriving_laws.proofs.Fields.{one_more, length_more, pushed-either}

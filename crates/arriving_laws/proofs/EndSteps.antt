@@ -14,8 +14,7 @@ use Rattle.plain.specs.Rules.{◌if◌, first_of}
 use Rattle.plain.specs.Plain.{ends_of, rising, last_of}
 use Rattle.format.specs.declared.Encoding.{Encoding}
 use Rattle.format.proofs.Answers.{first_one}
-use Rattle.arriving.specs.declared.Stage.{Stage}
-use Rattle.arriving.specs.declared.Stage.TheVariants.{Ends, Trailer}
+use Rattle.arriving.specs.Stages.{Stage, Ends, Trailer}
 use Rattle.arriving.specs.Arriving.{Waiting, waiting, settled, ends_from, field_of, acted, pushed, stepped_by}
 use Rattle.arriving_laws.specs.Owed.{trailed_by, owed_by, owed, tail_of, Fits}
 use Rattle.arriving_laws.proofs.Fields.{one_more, length_more, pushed-either, trailer-behind, trailer-whole, trailed-behind, ends_more}

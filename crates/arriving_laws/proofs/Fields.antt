@@ -16,7 +16,7 @@ use Rattle.plain.proofs.Places.{over-shift, over-same}
 use Rattle.nullable.specs.Nullable.{trailer_of}
 use Rattle.format.specs.declared.Encoding.{Encoding}
 use Rattle.format.specs.declared.Encoding.TheVariants.{Plain, Nullable, RunLength, RunLengthNullable, Dictionary}
-use Rattle.arriving.specs.declared.Stage.{Stage}
+use Rattle.arriving.specs.Stages.{Stage}
 use Rattle.arriving.specs.Arriving.{Waiting, waiting, trailed, field_of, acted, pushed}
 use Rattle.arriving_laws.specs.Owed.{trailed_by, tail_of}
 

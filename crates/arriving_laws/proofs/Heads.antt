@@ -22,8 +22,7 @@ use Rattle.dict.specs.Dictionary.{i32, known, keys_number}
 use Rattle.format.specs.declared.Encoding.{Encoding}
 use Rattle.format.specs.declared.Encoding.TheVariants.{Plain, Nullable, RunLength, RunLengthNullable, Dictionary}
 use Rattle.format.proofs.Answers.{first_one}
-use Rattle.arriving.specs.declared.Stage.{Stage}
-use Rattle.arriving.specs.declared.Stage.TheVariants.{Done, RunHead}
+use Rattle.arriving.specs.Stages.{Stage, Done, RunHead}
 use Rattle.arriving.specs.Arriving.{trailed, plain_from, no_runs, runs_from, keys_from, inner_from}
 use Rattle.arriving_laws.specs.Owed.{trailed_by, keys_then, runs_owed, inner_owed, owed_by, tail_of, coded, Fits, Checked}
 use Rattle.arriving_laws.proofs.Plains.{plain-owed, plain_fits, nullable-owed, nullable-fits}

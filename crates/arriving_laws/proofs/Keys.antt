@@ -21,7 +21,7 @@ use Rattle.dict.specs.Dictionary.{slot_at, known}
 use Rattle.format.specs.declared.Encoding.{Encoding}
 use Rattle.format.specs.declared.Encoding.TheVariants.{Dictionary}
 use Rattle.format.proofs.Answers.{first_one}
-use Rattle.arriving.specs.declared.Stage.TheVariants.{Done, Keys}
+use Rattle.arriving.specs.Stages.{Done, Keys}
 use Rattle.arriving.specs.Arriving.{Waiting, trailed, plain_from, keys_from, field_of, acted, stepped_by}
 use Rattle.arriving_laws.specs.Owed.{trailed_by, owed_by, owed, tail_of, Fits, Checked}
 use Rattle.arriving_laws.proofs.Fields.{one_more, length_more, pushed-either}

@@ -23,7 +23,7 @@ use Rattle.nullable.proofs.Number.{no-trailer}
 use Rattle.format.specs.declared.Encoding.{Encoding}
 use Rattle.format.specs.declared.Encoding.TheVariants.{Plain, Nullable, RunLength, RunLengthNullable, Dictionary}
 use Rattle.format.proofs.Answers.{first_one, kept-first}
-use Rattle.arriving.specs.declared.Stage.TheVariants.{Done, Trailer}
+use Rattle.arriving.specs.Stages.{Done, Trailer}
 use Rattle.arriving.specs.Arriving.{trailed, settled, ends_from, chars_from, plain_from, nullable_from, width_in}
 use Rattle.arriving_laws.specs.Owed.{trailed_by, on, places_behind, text_from, owed_by, tail_of, Fits, Checked}
 use Rattle.arriving_laws.proofs.Fields.{ends-before}

@@ -1,4 +1,5 @@
 -- The head of a run-length block: its rules from there on, and a byte of it. Assumes nothing.
+use Rattle.std.specs.Prelude.{Result, Ok, Err}
 use Prim.Native.Nat.{ℕ, zero, suc, ◌+◌, ◌-◌, ◌≤◌}
 use native.Mathlib.Nat.{zero-add}
 use native.Mathlib.Omega.{arith}
@@ -17,14 +18,12 @@ use Rattle.encode.proofs.Bools.{clash}
 use Rattle.plain.specs.Rules.{◌if◌, first_of}
 use Rattle.plain.specs.Plain.{places, plain_number}
 use Rattle.nullable.specs.Nullable.{nullable_number}
-use Rattle.rle.specs.declared.Walked.{Walked}
-use Rattle.rle.specs.declared.Walked.TheVariants.{Total, Refused}
 use Rattle.rle.specs.RunLength.{runs_in, counts_length, counts_part, inner_part, plus, walked, walk_number, run_length_number}
 use Rattle.dict.specs.Dictionary.{i32, known, keys_number}
 use Rattle.format.specs.declared.Encoding.{Encoding}
 use Rattle.format.specs.declared.Encoding.TheVariants.{Plain, Nullable, RunLength, RunLengthNullable, Dictionary}
 use Rattle.format.proofs.Answers.{first_one}
-use Rattle.arriving.specs.declared.Stage.TheVariants.{Done, RunHead, Counts}
+use Rattle.arriving.specs.Stages.{Done, RunHead, Counts}
 use Rattle.arriving.specs.Arriving.{Waiting, head_read, field_of, acted, stepped_by}
 use Rattle.arriving_laws.specs.Owed.{keys_then, runs_owed, inner_owed, owed_by, owed, coded, Unended, Fits}
 use Rattle.arriving_laws.proofs.Fields.{one_more, length_more, pushed-either}
@@ -60,10 +59,10 @@ rules-alike a b c d x y z = first-before (a ∷ b ∷ c ∷ d ∷ x ∷ []) (y �
 pub never : {A : Type 0} → ◌≡◌ {A = ℕ} 0 1 → A
 never z = absurd (omega arith)
 
-plus-zero : (w : Walked) → plus 0 w ≡ w
+plus-zero : (w : Result ℕ ℕ) → plus 0 w ≡ w
 unfolding plus
-plus-zero (Total t) = ap Total (zero-add t)
-plus-zero (Refused x) = refl
+plus-zero (Ok t) = ap Ok (zero-add t)
+plus-zero (Err x) = refl
 
 -- ---- a run-length block of eight bytes and more
 -- its rules, from the numbers in its head, the bytes behind it and what the inner rules say

@@ -5,7 +5,7 @@ use mathlib.Core.Path.{◌≡◌}
 use lib.ListN.{length}
 use Rattle.encode.specs.declared.Kind.{Kind}
 use Rattle.format.specs.declared.Encoding.{Encoding}
-use Rattle.arriving.specs.declared.Stage.{Stage}
+use Rattle.arriving.specs.Stages.{Stage}
 use Rattle.arriving.specs.Arriving.{Waiting, stepped_by}
 use Rattle.arriving_laws.specs.Owed.{owed_by, owed, Fits}
 

@@ -1,4 +1,5 @@
 -- 02 (x): a whole block, byte by byte: what a check waits for at its end is no more than opening's verdict. Assumes nothing.
+use Rattle.std.specs.Prelude.{Some}
 use Prim.Native.Nat.{ℕ, suc, ◌-◌}
 use native.Mathlib.Omega.{arith}
 use mathlib.Core.List.{List, [], ◌∷◌}
@@ -6,10 +7,8 @@ use mathlib.Core.Path.{◌≡◌, refl, sym, ap, subst, ◌∙◌}
 use lib.ListN.{length}
 use Rattle.encode.specs.declared.Kind.{Kind}
 use Rattle.format.specs.declared.Encoding.{Encoding}
-use Rattle.format.specs.declared.Column.TheVariants.{Of}
 use Rattle.format.specs.Opening.{column_number}
-use Rattle.arriving.specs.declared.Stage.{Stage}
-use Rattle.arriving.specs.declared.Stage.TheVariants.{Done, KeyLength, Entries, RunHead, Counts, Keys, Ends, Chars, Trailer}
+use Rattle.arriving.specs.Stages.{Stage, Done, KeyLength, Entries, RunHead, Counts, Keys, Ends, Chars, Trailer}
 use Rattle.arriving.specs.Arriving.{Waiting, waiting, began, stepped_by, stepped, fed}
 use Rattle.arriving_laws.specs.Owed.{owed_by, owed, Fits, Checked}
 use Rattle.arriving_laws.proofs.Steps.{StepOwed, StepFits}
@@ -20,6 +19,7 @@ use Rattle.arriving_laws.proofs.CountSteps.{counts-step-owed, counts-step-fits}
 use Rattle.arriving_laws.proofs.CharSteps.{chars-step-owed, chars-step-fits}
 use Rattle.arriving_laws.proofs.EndSteps.{ends-step-owed, ends-step-fits, trailer-step-owed, trailer-step-fits}
 use Rattle.arriving_laws.proofs.Beginning.{began-owed, began-fits}
+use Rattle.format.specs.Blocks.{column}
 
 module _ (k : Kind) (e : Encoding) (n : ℕ) (c : Checked k) where
   -- ---- a byte, in any stage
@@ -85,7 +85,7 @@ at-end k e n (Trailer bits later) held h = absurd (omega (arith, h.1))
 -- ---- the theorem, for a block in one piece
 pub whole-verdict :
     (k : Kind) (e : Encoding) (n : ℕ) (b : List ℕ) → Checked k
-    → fed k e n (length b) (waiting (began k e n (length b)) []) b ≡ waiting (Done (column_number (Of k e) n b)) []
+    → fed k e n (length b) (waiting (began k e n (length b)) []) b ≡ waiting (Done (column_number (Some (column k e)) n b)) []
 whole-verdict k e n b c =
     at-end k e n end.stage end.held (fed-fits k e n c start b fit)
     ∙ ap (λ (v : ℕ). waiting (Done v) []) (sym (fed-owed k e n c start b fit) ∙ began-owed k e n b c)

@@ -13,8 +13,7 @@ use Rattle.rle.specs.RunLength.{plus, walked, walk_number, run_length_number}
 use Rattle.dict.specs.Dictionary.{i32, known, keys_number, dictionary_number}
 use Rattle.format.specs.declared.Encoding.{Encoding}
 use Rattle.format.specs.declared.Encoding.TheVariants.{Plain, Nullable, RunLength, RunLengthNullable, Dictionary}
-use Rattle.arriving.specs.declared.Stage.{Stage}
-use Rattle.arriving.specs.declared.Stage.TheVariants.{Done, KeyLength, Entries, RunHead, Counts, Keys, Ends, Chars, Trailer}
+use Rattle.arriving.specs.Stages.{Stage, Done, KeyLength, Entries, RunHead, Counts, Keys, Ends, Chars, Trailer}
 use Rattle.arriving.specs.Arriving.{Waiting, trailed, width_in}
 
 -- what the plain rules say, and before it, of a nullable block, its trailer

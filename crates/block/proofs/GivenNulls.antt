@@ -7,6 +7,7 @@ use mathlib.Core.Bool.{Bool, true, false, cond}
 use mathlib.Core.List.{List, [], ◌∷◌, map}
 use lib.ListN.{length, take, drop, length-take, length-map}
 use lib.Seq.{take_at}
+use Rattle.std.specs.Prelude.{Ok}
 use Rattle.limits.specs.Refusals.{ROOM, DISAGREE}
 use Rattle.encode.specs.declared.Kind.{Kind}
 use Rattle.encode.specs.declared.Kind.TheVariants.{Fixed, Char, Blob}
@@ -25,8 +26,9 @@ use Rattle.anatomy.specs.Parts.{marks_in, items_in}
 use Rattle.part_rows.specs.PartRows.{steps_by, row_in, good_in}
 use Rattle.part_rows.proofs.Places.{length-steps}
 use Rattle.part_rows.proofs.FlagRows.{bare-flag}
+use Rattle.fill.specs.declared.Filled.{Filled}
 use Rattle.fill.specs.Areas.{Areas, is_bytes, short, filled_in, given_bytes}
-use Rattle.fill.specs.Filling.{Filling, refused_filling, next_by, write_rows, filling_by, filling}
+use Rattle.fill.specs.Filling.{Filling, filled, refused_filling, next_by, write_rows, filling_by, filling}
 use Rattle.block.specs.Spots.{nulls_by}
 
 -- ---- the flags that rows leave behind are theirs
@@ -60,34 +62,34 @@ record Wrote (p : Parts) (b : List ℕ) (n : ℕ) (a : Areas) (f : Filling) : Ty
 
 module _ (p : Parts) (from : Spot) (b : List ℕ) (n : ℕ) (a : Areas) where
   wrote-rows : (is : List ℕ) (t : Spot) → length (map (row_in p b) is) ≡ n
-      → let f = write_rows p.source.kind from (map (row_in p b) is) t a in f.answer.number ≡ 0 → Wrote p b n a f
+      → {x : Filled} → let f = write_rows p.source.kind (map (row_in p b) is) t a in f.answer ≡ Ok x → Wrote p b n a f
   unfolding write_rows
-  wrote-rows is t l = go (short p.source.kind (map (row_in p b) is) a)
+  wrote-rows is t l {x = y} = go (short p.source.kind (map (row_in p b) is) a)
     where
       rs : List Row
       rs = map (row_in p b) is
 
       done : Filling
-      done = record { answer = record { number = 0; bytes = given_bytes p.source.kind rs; next = t }; areas = filled_in p.source.kind rs a }
+      done = record { answer = Ok (filled (given_bytes p.source.kind rs) t); areas = filled_in p.source.kind rs a }
 
-      go : (x : Bool) → (cond x (refused_filling ROOM from a) done).answer.number ≡ 0
-          → Wrote p b n a (cond x (refused_filling ROOM from a) done)
-      go true h = absurd (omega (arith, h))
+      go : (x : Bool) → (cond x (refused_filling ROOM a) done).answer ≡ Ok y
+          → Wrote p b n a (cond x (refused_filling ROOM a) done)
+      go true h = let z : ◌≡◌ {A = ℕ} 0 1 = cc in absurd (omega arith)
       go false h = record { is = is; long = l; there = refl }
 
-  wrote_by : (w : Steps) → steps_by p from b n ≡ w → (filling_by p from b a w).answer.number ≡ 0 → Wrote p b n a (filling_by p from b a w)
+  wrote_by : (w : Steps) {x : Filled} → steps_by p from b n ≡ w → (filling_by p from b a w).answer ≡ Ok x → Wrote p b n a (filling_by p from b a w)
   unfolding filling_by
-  wrote_by stuck q h = absurd (omega (arith, h))
-  wrote_by (rows is t) q h = go (all_of (good_in p b) is) h
+  wrote_by stuck q h = let z : ◌≡◌ {A = ℕ} 0 1 = cc in absurd (omega arith)
+  wrote_by (rows is t) {x = y} q h = go (all_of (good_in p b) is) h
     where
       f : Filling
-      f = write_rows p.source.kind from (map (row_in p b) is) (next_by p.source.coded from t) a
+      f = write_rows p.source.kind (map (row_in p b) is) (next_by p.source.coded from t) a
 
-      go : (x : Bool) → (cond x f (refused_filling DISAGREE from a)).answer.number ≡ 0 → Wrote p b n a (cond x f (refused_filling DISAGREE from a))
+      go : (x : Bool) → (cond x f (refused_filling DISAGREE a)).answer ≡ Ok y → Wrote p b n a (cond x f (refused_filling DISAGREE a))
       go true z = wrote-rows is (next_by p.source.coded from t) (length-map is (row_in p b) ∙ length-steps p from b n q) z
-      go false z = absurd (omega (arith, z))
+      go false z = let z : ◌≡◌ {A = ℕ} 0 1 = cc in absurd (omega arith)
 
-  module _ (done : (filling p from b n a).answer.number ≡ 0) where
+  module _ {x : Filled} (done : (filling p from b n a).answer ≡ Ok x) where
     wrote : Wrote p b n a (filling p from b n a)
     wrote = wrote_by (steps_by p from b n) refl done
 

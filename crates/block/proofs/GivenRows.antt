@@ -1,11 +1,12 @@
 -- What the rows written into the areas answer for a read. Assumes nothing.
+use native.Mathlib.Omega.{arith}
 use Prim.Native.Nat.{ℕ, ◌<◌}
 use mathlib.Core.Path.{◌≡◌, refl, sym, ap, ◌∙◌}
 use mathlib.Core.Bool.{Bool, true, false, cond}
 use mathlib.Core.List.{List, [], ◌∷◌, map}
-use lib.Dec.{eqb}
 use lib.IntN.{ℤ}
 use lib.ListN.{length, take, length-map}
+use Rattle.std.specs.Prelude.{Result, Ok, Err}
 use Rattle.limits.specs.Refusals.{ROOM, DISAGREE}
 use Rattle.encode.specs.declared.Kind.{Kind}
 use Rattle.zeros.specs.Zeros.{zeros_in}
@@ -21,8 +22,9 @@ use Rattle.anatomy.specs.declared.Parts.{Parts}
 use Rattle.anatomy.specs.Tests.{row_good}
 use Rattle.part_rows.specs.PartRows.{steps_by, row_in, good_in}
 use Rattle.part_rows.proofs.Places.{length-steps}
+use Rattle.fill.specs.declared.Filled.{Filled}
 use Rattle.fill.specs.Areas.{Areas, short, filled_in, given_bytes}
-use Rattle.fill.specs.Filling.{Filling, refused_filling, next_by, write_rows, filling_by, filling}
+use Rattle.fill.specs.Filling.{Filling, filled, refused_filling, next_by, write_rows, filling_by, filling}
 use Rattle.block.specs.declared.Reader.{Reader}
 use Rattle.block.specs.declared.Given.{Given}
 use Rattle.block.specs.Reading.{next_steps, moved, counted, nulls_in, Batch, refused_batch, give, batch_of}
@@ -45,14 +47,15 @@ told g h e =
     )
 
 -- ---- what is written is handed on
-abbrev pub handed-rows : Reader → Bool → ℕ → Filling → Batch
-handed-rows r coded n f = record {
-  answer = record { number = 0; rows = n; bytes = f.answer.bytes; reader = counted (moved_by coded r n f.answer.next) (zeros_in (take n f.areas.flags)) };
-  areas = f.areas;
+abbrev pub handed-rows : Reader → Bool → ℕ → Areas → Result Filled ℕ → Batch
+handed-rows r coded n a (Ok x) = record {
+  answer = record { number = 0; rows = n; bytes = x.bytes; reader = counted (moved_by coded r n x.next) (zeros_in (take n a.flags)) };
+  areas = a;
 }
+handed-rows r coded n a (Err e) = refused_batch e r a
 
 abbrev pub handed-on : Reader → Bool → ℕ → Filling → Batch
-handed-on r coded n f = cond (eqb f.answer.number 0) (handed-rows r coded n f) (refused_batch f.answer.number r f.areas)
+handed-on r coded n f = handed-rows r coded n f.areas f.answer
 
 moved_on : (r : Reader) (from : Spot) (coded : Bool) (n : ℕ) (t : Spot) → moved r n (spot_by coded r t) ≡ moved_by coded r n (next_by coded from t)
 unfolding moved_by spot_by next_by
@@ -61,7 +64,7 @@ moved_on r from false n t = refl
 
 -- rows that are written, as the code answers them and as a read does
 abbrev filled-rows : Kind → List Row → Spot → Areas → Filling
-filled-rows k rs t a = record { answer = record { number = 0; bytes = given_bytes k rs; next = t }; areas = filled_in k rs a }
+filled-rows k rs t a = record { answer = Ok (filled (given_bytes k rs) t); areas = filled_in k rs a }
 
 abbrev given-rows : Kind → Reader → List Row → Spot → Areas → Batch
 given-rows k r rs t a = record {
@@ -71,7 +74,7 @@ given-rows k r rs t a = record {
 
 give-handed :
     (k : Kind) (r : Reader) (from : Spot) (coded : Bool) (n : ℕ) (rs : List Row) (t : Spot) (a : Areas) → length rs ≡ n
-    → give k r rs (spot_by coded r t) a ≡ handed-on r coded n (write_rows k from rs (next_by coded from t) a)
+    → give k r rs (spot_by coded r t) a ≡ handed-on r coded n (write_rows k rs (next_by coded from t) a)
 unfolding give write_rows nulls_in
 give-handed k r from coded n rs t a long = go (short k rs a)
   where
@@ -87,7 +90,7 @@ give-handed k r from coded n rs t a long = go (short k rs a)
 
     go : (x : Bool)
         → cond x (refused_batch ROOM r a) (given-rows k r rs (spot_by coded r t) a)
-        ≡ handed-on r coded n (cond x (refused_filling ROOM from a) (filled-rows k rs (next_by coded from t) a))
+        ≡ handed-on r coded n (cond x (refused_filling ROOM a) (filled-rows k rs (next_by coded from t) a))
     go true = refl
     go false =
         ap (λ (xs : List ℕ). answer (length rs) (moved r (length rs) (spot_by coded r t)) (zeros_in xs)) (sym (flags-back k rs a))
@@ -126,7 +129,7 @@ module _ {k : Kind} {e : Encoding} {r : Reader} {b : List ℕ} {n : ℕ} {p : Pa
 
       go : (x : Bool)
           → cond x (give p.source.kind r rs (spot_by coded r t) a) (refused_batch DISAGREE r a)
-          ≡ handed-on r coded n (cond x (write_rows p.source.kind from rs (next_by coded from t) a) (refused_filling DISAGREE from a))
+          ≡ handed-on r coded n (cond x (write_rows p.source.kind rs (next_by coded from t) a) (refused_filling DISAGREE a))
       go true = give-handed p.source.kind r from coded n rs t a (length-map is (row_in p b) ∙ length-steps p from b n q)
       go false = refl
 
@@ -138,24 +141,26 @@ module _ {k : Kind} {e : Encoding} {r : Reader} {b : List ℕ} {n : ℕ} {p : Pa
       go stuck q = unfold batch_of filling_by in refl
       go (rows is t) q = good-rows is t q
 
--- ---- what is refused writes nothing
-writing-kept : (k : Kind) (from : Spot) (rs : List Row) (t : Spot) (a : Areas) → ((write_rows k from rs t a).answer.number ≡ 0 → ⊥) → (write_rows k from rs t a).areas ≡ a
+-- ---- what is refused writes nothing, and no refusal is 0
+writing-kept : (k : Kind) (rs : List Row) (t : Spot) (a : Areas) {e : ℕ} → (write_rows k rs t a).answer ≡ Err e
+    → ((write_rows k rs t a).areas ≡ a) × (e ≡ 0 → ⊥)
 unfolding write_rows
-writing-kept k from rs t a = go (short k rs a)
+writing-kept k rs t a {e = e} = go (short k rs a)
   where
-    go : (x : Bool) → ((cond x (refused_filling ROOM from a) (filled-rows k rs t a)).answer.number ≡ 0 → ⊥)
-        → (cond x (refused_filling ROOM from a) (filled-rows k rs t a)).areas ≡ a
-    go true h = refl
-    go false h = absurd (h refl)
+    go : (x : Bool) → (cond x (refused_filling ROOM a) (filled-rows k rs t a)).answer ≡ Err e
+        → ((cond x (refused_filling ROOM a) (filled-rows k rs t a)).areas ≡ a) × (e ≡ 0 → ⊥)
+    go true h = let q : ROOM ≡ e = cc in (refl, λ z. omega arith)
+    go false h = let z : ◌≡◌ {A = ℕ} 0 1 = cc in absurd (omega arith)
 
-pub filling-kept : (p : Parts) (from : Spot) (b : List ℕ) (a : Areas) (w : Steps) → ((filling_by p from b a w).answer.number ≡ 0 → ⊥) → (filling_by p from b a w).areas ≡ a
+pub filling-kept : (p : Parts) (from : Spot) (b : List ℕ) (a : Areas) (w : Steps) {e : ℕ} → (filling_by p from b a w).answer ≡ Err e
+    → ((filling_by p from b a w).areas ≡ a) × (e ≡ 0 → ⊥)
 unfolding filling_by
-filling-kept p from b a stuck = λ h. refl
-filling-kept p from b a (rows is t) = go (all_of (good_in p b) is)
+filling-kept p from b a stuck {e = e} h = let q : DISAGREE ≡ e = cc in (refl, λ z. omega arith)
+filling-kept p from b a (rows is t) {e = e} h = go (all_of (good_in p b) is) h
   where
     f : Filling
-    f = write_rows p.source.kind from (map (row_in p b) is) (next_by p.source.coded from t) a
+    f = write_rows p.source.kind (map (row_in p b) is) (next_by p.source.coded from t) a
 
-    go : (x : Bool) → ((cond x f (refused_filling DISAGREE from a)).answer.number ≡ 0 → ⊥) → (cond x f (refused_filling DISAGREE from a)).areas ≡ a
-    go true h = writing-kept p.source.kind from (map (row_in p b) is) (next_by p.source.coded from t) a h
-    go false h = refl
+    go : (x : Bool) → (cond x f (refused_filling DISAGREE a)).answer ≡ Err e → ((cond x f (refused_filling DISAGREE a)).areas ≡ a) × (e ≡ 0 → ⊥)
+    go true q = writing-kept p.source.kind (map (row_in p b) is) (next_by p.source.coded from t) a q
+    go false h = let q : DISAGREE ≡ e = cc in (refl, λ z. omega arith)

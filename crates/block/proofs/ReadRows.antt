@@ -7,14 +7,13 @@ use mathlib.Core.Bool.{Bool, true, false, not}
 use mathlib.Core.List.{List}
 use lib.IntN.{ℤ}
 use lib.ListN.{length, take}
-use borrow.Author.Tests.{eq-eqb, ne_eqb, not-true, not-false}
+use borrow.Author.Tests.{ne_eqb, not-true, not-false}
+use Rattle.std.specs.Prelude.{Result, Ok, Err, Option, Some, None}
 use Rattle.limits.specs.Limits.{MOST_ITEMS}
 use Rattle.limits.specs.Refusals.{DISAGREE}
 use Rattle.encode.specs.declared.Kind.{Kind}
 use Rattle.zeros.specs.Zeros.{zeros_in}
 use Rattle.rle.specs.declared.Spot.{Spot}
-use Rattle.rle.specs.declared.Reached.{Reached}
-use Rattle.rle.specs.declared.Reached.TheVariants.{At, Stuck}
 use Rattle.rle.specs.Stepping.{spot, Steps, stuck, rows, steps_from}
 use Rattle.rle.specs.Pieces.{steps_in, reached}
 use Rattle.source.specs.Rows.{StartsBy}
@@ -30,11 +29,11 @@ use Rattle.block.specs.declared.Reader.{Reader}
 use Rattle.block.specs.declared.Given.{Given}
 use Rattle.block.specs.Reading.{next_steps, moved, counted, Batch, refused_batch, batch_of, up_to, whole, pass_then, read}
 use Rattle.block.specs.Spots.{start_of, spot_by, moved_by, nulls_by}
-use Rattle.block.proofs.RecordTests.{RightRecord, right, most-rows}
+use Rattle.block.proofs.RecordTests.{RightRecord, most-rows}
 use Rattle.block.proofs.NextRows.{respot, Served, served, serves}
 use Rattle.block.proofs.MovedReader.{moved-right}
 use Rattle.block.proofs.GivenNulls.{flags-fit, nulls-by-marks}
-use Rattle.block.proofs.GivenRows.{BatchTold, told, handed-on, batch-same, filling-kept}
+use Rattle.block.proofs.GivenRows.{BatchTold, told, handed-rows, handed-on, batch-same, filling-kept}
 
 -- what the tests leave, where none refuses
 pub record Passed (r : Reader) (b : List ℕ) (skip size : ℕ) (a : Areas) (k : Kind) (e : Encoding) : Type 0 where
@@ -46,7 +45,7 @@ pub record Passed (r : Reader) (b : List ℕ) (skip size : ℕ) (a : Areas) (k :
 -- ---- the rows passed over
 -- from the parts
 module _ (p : Parts) (from : Spot) (b : List ℕ) (n : ℕ) where
-  pub pass-items : not p.source.coded ≡ true → At (spot (from.run + n) from.at from.taken) ≡ reached (steps_by p from b n)
+  pub pass-items : not p.source.coded ≡ true → Some (spot (from.run + n) from.at from.taken) ≡ reached (steps_by p from b n)
   unfolding steps_by steps_in reached
   pass-items h = rw (not-true p.source.coded h)
 
@@ -55,12 +54,12 @@ module _ (p : Parts) (from : Spot) (b : List ℕ) (n : ℕ) where
   pass-runs h = rw (not-false p.source.coded h)
 
 -- by what the pass over them found
-stuck_there : (w : Steps) → Stuck ≡ reached w → w ≡ stuck
+stuck_there : (w : Steps) → None ≡ reached w → w ≡ stuck
 unfolding reached
 stuck_there stuck h = refl
 stuck_there (rows is t) h = let z : ◌≡◌ {A = ℕ} 0 1 = cc in absurd (omega arith)
 
-at_there : (w : Steps) {t : Spot} → At t ≡ reached w → (is : List ℕ) × (w ≡ rows is t)
+at_there : (w : Steps) {t : Spot} → Some t ≡ reached w → (is : List ℕ) × (w ≡ rows is t)
 unfolding reached
 at_there stuck h = let z : ◌≡◌ {A = ℕ} 0 1 = cc in absurd (omega arith)
 at_there (rows is u) {t} h = let q : t ≡ u = cc in (is, rw q)
@@ -107,17 +106,17 @@ module _
     pub pass-may : AllWithin p (length b) × (p.source.runs ≤ MOST_ITEMS) × (start.run + skip < 2 ^ 64)
     pass-may = let h = start-within in let l = rows_few in (serve.lies.within, serve.runs, omega arith)
 
-    module _ {g : Reached} (passed : g ≡ reached (steps_by p start b skip)) where
+    module _ {g : Option Spot} (passed : g ≡ reached (steps_by p start b skip)) where
       steps-are : next_steps e r b skip ≡ respot coded r (steps_by p start b skip)
       steps-are = rw starts serve.steps
 
-      pub read-stuck : g ≡ Stuck → refused_batch DISAGREE r a ≡ read r b skip size a
+      pub read-stuck : g ≡ None → refused_batch DISAGREE r a ≡ read r b skip size a
       unfolding pass_then respot
       read-stuck h =
           let w = stuck_there (steps_by p start b skip) (sym h ∙ passed) in
           ap (λ (x : Steps). pass_then k e r b skip size a (respot coded r x)) (sym w) ∙ ap (pass_then k e r b skip size a) (sym steps-are) ∙ s.on
 
-      module _ {from : Spot} (there : g ≡ At from) where
+      module _ {from : Spot} (there : g ≡ Some from) where
         over : (is : List ℕ) × (steps_by p start b skip ≡ rows is from)
         over = at_there (steps_by p start b skip) (sym there ∙ passed)
 
@@ -168,26 +167,24 @@ module _
               ∙ ap (pass_then k e r b skip size a) (sym steps-there)
               ∙ s.on
 
-          module _ {f : Filled} {vs : List ℤ} {fs es bs : List ℕ} (h : AllTold f vs fs es bs filled) where
+          module _ {x : Result Filled ℕ} {vs : List ℤ} {fs es bs : List ℕ} (h : AllTold x vs fs es bs filled) where
             all_told : {x : Given} → ◌≡◌ {A = Batch} (record { answer = x; areas = filled.areas }) (read r b skip size a) → BatchTold x vs fs es bs (read r b skip size a)
             all_told {x} q =
                 let z = told x refl q in
                 (z.0, (h.1.0 ∙ z.1.0, (h.1.1.0 ∙ z.1.1.0, (h.1.1.1.0 ∙ z.1.1.1.0, h.1.1.1.1 ∙ z.1.1.1.1))))
 
-            pub fill-refused :
-                (f.number ≡ 0 → ⊥) → {x : Given} → x ≡ record { number = f.number; rows = 0; bytes = 0; reader = r } → BatchTold x vs fs es bs (read r b skip size a)
+            pub fill-refused : {e : ℕ} → x ≡ Err e → BatchTold (record { number = e; rows = 0; bytes = 0; reader = r }) vs fs es bs (read r b skip size a)
             unfolding whole
-            fill-refused l z =
-                let i : filled.answer.number ≡ f.number = ap (λ (y : Filled). y.number) (sym h.0) in
-                let j : filled.answer.number ≡ 0 → ⊥ = λ y. l (sym i ∙ y) in
-                all_told (rw (z, ← i, filling-kept p from b a (steps_by p from b n) j) (sym (simp (ne_eqb _ 0 j)) ∙ all-of-it))
-
-            done-is : f.number ≡ 0 → filled.answer.number ≡ 0
-            done-is l = ap (λ (y : Filled). y.number) (sym h.0) ∙ l
+            fill-refused {e = e} l =
+                let j : filled.answer ≡ Err e = sym h.0 ∙ l in
+                let kept = filling-kept p from b a (steps_by p from b n) j in
+                let stays : whole r a (refused_batch e behind filled.areas) ≡ refused_batch e r a = simp (ne_eqb e 0 kept.1) in
+                all_told
+                (rw kept.0 (sym stays ∙ ap (λ (y : Result Filled ℕ). whole r a (handed-rows behind coded n filled.areas y)) (sym j) ∙ all-of-it))
 
             -- what counting the nulls asks
-            pub flags-there : f.number ≡ 0 → n ≤ length fs
-            flags-there l = rw h.1.1.0 (flags-fit p from b n a (done-is l))
+            pub flags-there : {g : Filled} → x ≡ Ok g → n ≤ length fs
+            flags-there l = rw h.1.1.0 (flags-fit p from b n a (sym h.0 ∙ l))
 
             -- and that it wraps no sum
             pub nulls-fit : {nulls : ℕ} → nulls ≤ n → r.nulls + nulls < 2 ^ 64
@@ -200,15 +197,15 @@ module _
                 omega arith
 
             pub fill_done :
-                f.number ≡ 0 → {nulls : ℕ} → nulls ≡ nulls_by p.source.marks (take n fs) → {y : Reader} → y ≡ counted (moved_by coded r (skip + n) f.next) nulls
-                → BatchTold (record { number = 0; rows = n; bytes = f.bytes; reader = y }) vs fs es bs (read r b skip size a)
+                {g : Filled} → x ≡ Ok g → {nulls : ℕ} → nulls ≡ nulls_by p.source.marks (take n fs)
+                → {y : Reader} → y ≡ counted (moved_by coded r (skip + n) g.next) nulls
+                → BatchTold (record { number = 0; rows = n; bytes = g.bytes; reader = y }) vs fs es bs (read r b skip size a)
             unfolding whole
-            fill_done l {nulls} c {y} z =
-                let i = done-is l in
+            fill_done {g = g} l {nulls = nulls} c {y = y} z =
+                let i : filled.answer ≡ Ok g = sym h.0 ∙ l in
                 let q = c ∙ ap (λ (x : List ℕ). nulls_by p.source.marks (take n x)) h.1.1.0 ∙ nulls-by-marks p from b n a i in
-                let there : y ≡ counted (moved_by coded behind n filled.answer.next) (zeros_in (take n filled.areas.flags)) =
+                let there : y ≡ counted (moved_by coded behind n g.next) (zeros_in (take n filled.areas.flags)) =
                 z
-                ∙ ap (λ (w : Filled). counted (moved_by coded r (skip + n) w.next) nulls) h.0
-                ∙ ap (λ (w : Reader). counted w nulls) (moved_twice r coded skip n from filled.answer.next)
-                ∙ ap (counted (moved_by coded behind n filled.answer.next)) q in
-                all_told (rw (there, h.0) (sym (simp (eq-eqb _ 0 i)) ∙ all-of-it))
+                ∙ ap (λ (w : Reader). counted w nulls) (moved_twice r coded skip n from g.next)
+                ∙ ap (counted (moved_by coded behind n g.next)) q in
+                all_told (rw there (ap (λ (w : Result Filled ℕ). whole r a (handed-rows behind coded n filled.areas w)) (sym i) ∙ all-of-it))

@@ -1,13 +1,10 @@
 -- A sequence of calls on one reader and one block, and what they hand out. Assumes nothing.
-use Rattle.std.specs.Prelude.{ℕ, zero, suc, ◌-◌, cond, List, [], ◌∷◌, map, eqb, pos, get_or, take, drop}
+use Rattle.std.specs.Prelude.{Result, Ok, Err, ℕ, zero, suc, ◌-◌, cond, List, [], ◌∷◌, map, eqb, pos, get_or, take, drop, Option, Some, None}
 use Rattle.encode.specs.declared.Kind.{Kind}
 use Rattle.plain.specs.Rows.{Row, null, int, bytes}
 use Rattle.plain.specs.Plain.{places}
 use Rattle.format.specs.declared.Column.{Column}
-use Rattle.format.specs.declared.Column.TheVariants.{Of, Unknown}
 use Rattle.block.specs.declared.Reader.{Reader}
-use Rattle.block.specs.declared.Opened.{Opened}
-use Rattle.block.specs.declared.Opened.TheVariants.{Open, Refused}
 use Rattle.format.specs.Blocks.{column_of}
 use Rattle.block.specs.Reading.{is_bytes, Areas, Batch, read}
 
@@ -32,15 +29,15 @@ handed_row k a i =
     (bytes (take (get_or a.ends i 0 - start_in a.ends i) (drop (start_in a.ends i) a.bytes)))
     (int (get_or a.values i (pos 0))))
 
-unfoldable pub handed : Column → ℕ → Areas → List Row
-handed Unknown n a = []
-handed (Of k e) n a = map (handed_row k a) (places n 0)
+unfoldable pub handed : Option Column → ℕ → Areas → List Row
+handed None n a = []
+handed (Some c) n a = map (handed_row c.kind a) (places n 0)
 
-abbrev pub column_in : Reader → Column
+abbrev pub column_in : Reader → Option Column
 column_in r = column_of r.kind r.encoding r.width
 
 -- what one call answers, and the reader after it
-unfoldable pub read_answer : Column → ℕ → Batch → Answer
+unfoldable pub read_answer : Option Column → ℕ → Batch → Answer
 read_answer c skip g = cond (eqb g.answer.number 0) (gave skip (handed c g.answer.rows g.areas)) (refused g.answer.number)
 
 unfoldable pub answer_to : Reader → List ℕ → Call → Answer
@@ -54,6 +51,6 @@ play r b [] = []
 play r b (c ∷ cs) = answer_to r b c ∷ play (after r b c) b cs
 
 -- from the opening on
-unfoldable pub play_opened : Opened → List ℕ → List Call → List Answer
-play_opened (Open r) b cs = play r b cs
-play_opened (Refused e) b cs = refused e ∷ []
+unfoldable pub play_opened : Result Reader ℕ → List ℕ → List Call → List Answer
+play_opened (Ok r) b cs = play r b cs
+play_opened (Err e) b cs = refused e ∷ []

@@ -1,6 +1,6 @@
 -- 01, "Reading", and 02 (iv) and (vii): opening, read and remaining as functions of the record, the arguments, the block and what the lent areas hold, for every
 -- record and every block. What is read is said row by row; anatomy has the tests of the numbers at a block's head, and fill the lent areas. Assumes nothing.
-use Rattle.std.specs.Prelude.{ℕ, zero, suc, ◌+◌, ◌-◌, min, Bool, cond, not, ◌&&◌, ◌||◌, List, map, ltb, eqb, length}
+use Rattle.std.specs.Prelude.{Result, Ok, Err, ℕ, zero, suc, ◌+◌, ◌-◌, min, Bool, cond, not, ◌&&◌, ◌||◌, List, map, ltb, eqb, length, Option, Some, None}
 use Rattle.limits.specs.Limits.{MOST_BYTES}
 use Rattle.limits.specs.Refusals.{ROOM, NO_ROWS, TOO_FAR, DISAGREE}
 use Rattle.encode.specs.declared.Kind.{Kind}
@@ -13,7 +13,6 @@ use Rattle.rle.specs.Stepping.{spot, Steps, stuck, rows, steps_from}
 use Rattle.format.specs.declared.Encoding.{Encoding}
 use Rattle.format.specs.declared.Encoding.TheVariants.{Plain, Nullable, RunLength, RunLengthNullable, Dictionary}
 use Rattle.format.specs.declared.Column.{Column}
-use Rattle.format.specs.declared.Column.TheVariants.{Of, Unknown}
 use Rattle.format.specs.declared.Head.{Head}
 use Rattle.format.specs.Blocks.{column_of}
 use Rattle.format.specs.Opening.{head, head_of, counts_in, row_at, most_rows, open_number}
@@ -21,8 +20,6 @@ use Rattle.anatomy.specs.Tests.{part_outside, head_wrong, row_good}
 pub use Rattle.fill.specs.Areas.{Areas, areas}
 unfoldable pub use Rattle.fill.specs.Areas.{is_bytes, short, filled_in, given_bytes}
 use Rattle.block.specs.declared.Reader.{Reader}
-use Rattle.block.specs.declared.Opened.{Opened}
-use Rattle.block.specs.declared.Opened.TheVariants.{Open, Refused}
 use Rattle.block.specs.declared.Opening.{Opening}
 use Rattle.block.specs.declared.Given.{Given}
 use Rattle.block.specs.declared.Left.{Left}
@@ -42,15 +39,15 @@ reader_at kind encoding width n len h = record {
   nulls = 0;
 }
 
-unfoldable pub head_in : Column → List ℕ → Head
-head_in Unknown b = head 0 0 0 0
-head_in (Of k e) b = head_of e b
+unfoldable pub head_in : Option Column → List ℕ → Head
+head_in None b = head 0 0 0 0
+head_in (Some c) b = head_of c.encoding b
 
-unfoldable pub opened_by : ℕ → Reader → Opened
-opened_by zero r = Open r
-opened_by (suc e) r = Refused (suc e)
+unfoldable pub opened_by : ℕ → Reader → Result Reader ℕ
+opened_by zero r = Ok r
+opened_by (suc e) r = Err (suc e)
 
-unfoldable pub opened : ℕ → ℕ → ℕ → ℕ → List ℕ → Opened
+unfoldable pub opened : ℕ → ℕ → ℕ → ℕ → List ℕ → Result Reader ℕ
 opened kind encoding width n b =
     opened_by (open_number kind encoding width n b) (reader_at kind encoding width n (length b) (head_in (column_of kind encoding width) b))
 
@@ -59,9 +56,9 @@ abbrev pub no_reader : Reader
 no_reader = reader_at 255 0 0 0 0 (head 0 0 0 0)
 
 -- the answer of opening as a number and a record
-unfoldable pub opening_of : Opened → Opening
-opening_of (Open r) = record { number = 0; reader = r }
-opening_of (Refused e) = record { number = e; reader = no_reader }
+unfoldable pub opening_of : Result Reader ℕ → Opening
+opening_of (Ok r) = record { number = 0; reader = r }
+opening_of (Err e) = record { number = e; reader = no_reader }
 
 -- ---- the record contradicts itself
 unfoldable pub wrong : Kind → Encoding → Reader → Bool
@@ -113,9 +110,9 @@ counted r n = record {
 abbrev pub left : ℕ → ℕ → Reader → Left
 left e n r = record { number = e; rows = n; reader = r }
 
-unfoldable pub remaining_in : Column → Reader → Left
-remaining_in Unknown r = left DISAGREE 0 r
-remaining_in (Of k e) r = cond (wrong k e r) (left DISAGREE 0 r) (left 0 (r.rows - r.place) r)
+unfoldable pub remaining_in : Option Column → Reader → Left
+remaining_in None r = left DISAGREE 0 r
+remaining_in (Some c) r = cond (wrong c.kind c.encoding r) (left DISAGREE 0 r) (left 0 (r.rows - r.place) r)
 
 unfoldable pub remaining : Reader → Left
 remaining r = remaining_in (column_of r.kind r.encoding r.width) r
@@ -162,12 +159,12 @@ pass_then k e r b skip size a stuck = refused_batch DISAGREE r a
 pass_then k e r b skip size a (rows is t) = whole r a (up_to k e (moved r skip t) b size a)
 
 -- 6; 9 for the length and the record; 7; 9 for the fields; 4
-unfoldable pub read_in : Column → Reader → List ℕ → ℕ → ℕ → Areas → Batch
-read_in Unknown r b skip size a = refused_batch DISAGREE r a
-read_in (Of k e) r b skip size a =
-    cond (not (eqb (length b) r.len) || wrong k e r) (refused_batch DISAGREE r a)
+unfoldable pub read_in : Option Column → Reader → List ℕ → ℕ → ℕ → Areas → Batch
+read_in None r b skip size a = refused_batch DISAGREE r a
+read_in (Some c) r b skip size a =
+    cond (not (eqb (length b) r.len) || wrong c.kind c.encoding r) (refused_batch DISAGREE r a)
     (cond (ltb (r.rows - r.place) skip) (refused_batch TOO_FAR r a)
-    (pass_then k e r b skip size a (next_steps e r b skip)))
+    (pass_then c.kind c.encoding r b skip size a (next_steps c.encoding r b skip)))
 
 -- a read that asks for nothing: no rows passed over, and none given
 abbrev pub asks_nothing : ℕ → ℕ → Bool

@@ -4,9 +4,11 @@
 mod reading;
 
 ghost use Rattle.std.specs.Prelude.{◌≡◌};
+ghost use Rattle.limits.specs.Refusals.{by_number};
 ghost use Rattle.block.specs.Reading.{opened, opening_of};
 
 use format::Head;
+use limits::refusal::Refusal;
 pub use reading::{no_reader, open};
 use rle::Spot;
 
@@ -26,14 +28,8 @@ pub struct Reader {
     pub nulls: usize,
 }
 
-// What opening answers: a refused block has no reader.
-#[derive(Clone, Copy)]
-pub enum Opened {
-    Open(Reader),
-    Refused(u8),
-}
-
-// The same as a number and a record, for callers who take no enum: 0 and a reader, or a refusal and a record that names no column.
+// What opening answers as a number and a record, for callers who take no enum: 0 and a reader, or a refusal and a record that names no
+// column.
 #[repr(C)]
 #[derive(Clone, Copy)]
 pub struct Opening {
@@ -60,6 +56,20 @@ pub struct Left {
     pub reader: Reader,
 }
 
+impl From<Result<Reader, Refusal>> for Opening {
+    ghost from_gives = { λ answer opening. opening ≡ opening_of (by_number answer) };
+
+    fn from(answer: Result<Reader, Refusal>) -> Opening {
+        match answer {
+            Ok(reader) => Opening { number: 0, reader },
+            Err(refusal) => Opening {
+                number: u8::from(refusal),
+                reader: no_reader(),
+            },
+        }
+    }
+}
+
 // Opens a block, and answers a number and a record.
 pub fn open_by_number(
     kind: usize,
@@ -70,12 +80,5 @@ pub fn open_by_number(
 ) -> Opening
     ensures { result ≡ opening_of (opened kind encoding width rows block.now) }
 {
-    let answer = open(kind, encoding, width, rows, block);
-    match answer {
-        Opened::Open(reader) => Opening { number: 0, reader },
-        Opened::Refused(number) => Opening {
-            number,
-            reader: no_reader(),
-        },
-    }
+    Opening::from(open(kind, encoding, width, rows, block))
 }

@@ -1,48 +1,48 @@
 // The reader's calls: open, remaining and read.
 ghost use Rattle.std.specs.Prelude.{◌≡◌, true, ◌+◌, ◌≤◌, ◌<◌, ◌^◌, length, take};
 ghost use Rattle.limits.specs.Limits.{MOST_ITEMS};
+ghost use Rattle.limits.specs.Refusals.{by_number};
 ghost use Rattle.rle.specs.Pieces.{reached};
 ghost use Rattle.format.specs.Blocks.{column_of};
 ghost use Rattle.anatomy.specs.Parts.{AllWithin};
 ghost use Rattle.part_rows.specs.PartRows.{steps_by};
 ghost use Rattle.fill.specs.Areas.{areas};
 ghost use Rattle.block.specs.Reading.{reader_at, opened, no_reader, wrong as contradicts, remaining as remaining_of, counted, asks_nothing, read as read_of};
-ghost use Rattle.block.specs.Spots.{start_of, moved_by, nulls_by, tests_of};
+ghost use Rattle.block.specs.Spots.{start_of, moved_by, nulls_by, tests_of, given_of};
 
-use crate::{Given, Left, Opened, Reader};
+use crate::{Given, Left, Reader};
 use anatomy::Parts;
 use encode::Kind;
-use format::{Column, Encoding, Found, Head};
+use format::{Column, Encoding, Head};
 use limits::refusal;
-use rle::{Reached, Spot};
+use limits::refusal::Refusal;
+use rle::Spot;
 use source::Marks;
 
 // Opens a block of `rows` rows. The refusals come in the order of document 01.
-pub fn open(kind: usize, encoding: usize, width: usize, rows: usize, block: &[u8]) -> Opened
-    ensures { result ≡ opened kind encoding width rows block.now }
+pub fn open(
+    kind: usize,
+    encoding: usize,
+    width: usize,
+    rows: usize,
+    block: &[u8],
+) -> Result<Reader, Refusal>
+    ensures { by_number result ≡ opened kind encoding width rows block.now }
 {
-    let column = format::column_of(kind, encoding, width);
-    let Column::Of {
-        kind: k,
-        encoding: e,
-    } = column
-    else {
-        return Opened::Refused(refusal::COLUMN);
+    let found = format::column_of(kind, encoding, width);
+    let Some(column) = found else {
+        return Err(Refusal::Column);
     };
+    let e = column.encoding;
     let len = block.len();
     if limits::MOST_BYTES < len {
-        return Opened::Refused(refusal::LIMIT);
+        return Err(Refusal::Limit);
     }
     if format::most_rows(e) < rows {
-        return Opened::Refused(refusal::LIMIT);
+        return Err(Refusal::Limit);
     }
-    let found = format::check(k, e, rows, block);
-    match found {
-        Found::Refused(number) => Opened::Refused(number),
-        Found::Sound(head) => {
-            Opened::Open(Reader::at_start(kind, encoding, width, rows, len, head))
-        }
-    }
+    let head = format::check(column.kind, e, rows, block)?;
+    Ok(Reader::at_start(kind, encoding, width, rows, len, head))
 }
 
 // The record beside a refused opening: no kind has this number, so that nobody reads a bad column as an empty one.
@@ -59,13 +59,13 @@ pub fn no_reader() -> Reader
 }
 
 // The place after `n` rows.
-fn pass(parts: Parts, from: Spot, block: &[u8], n: usize) -> Reached
+fn pass(parts: Parts, from: Spot, block: &[u8], n: usize) -> Option<Spot>
     requires { AllWithin parts (length block.now) × (parts.source.runs ≤ MOST_ITEMS) × (from.run + n < 2 ^ 64) }
     ensures { result ≡ reached (steps_by parts from block.now n) }
 {
     let source = parts.source;
     if !source.coded {
-        return Reached::At(Spot {
+        return Some(Spot {
             run: from.run + n,
             at: from.at,
             taken: from.taken,
@@ -87,13 +87,6 @@ fn nothing_asked(skip: usize, size: usize) -> bool
     size == 0
 }
 
-// What the tests before any field come to: the kind and the encoding, or the number of a refusal.
-#[derive(Clone, Copy)]
-enum Tested {
-    Fine { kind: Kind, encoding: Encoding },
-    Refused(u8),
-}
-
 // The nulls among `n` rows whose flags are written: rows with no marks are there, so their flags aren't looked at.
 fn nulls_given(by: Marks, flags: &[u8], n: usize) -> usize
     requires { n ≤ length flags.now }
@@ -103,18 +96,6 @@ fn nulls_given(by: Marks, flags: &[u8], n: usize) -> usize
         Marks::Bare => 0,
         Marks::Bits => zeros::zeros(flags, n),
         Marks::Keys => zeros::zeros(flags, n),
-    }
-}
-
-// A refused read leaves the reader where it is.
-fn refused(number: u8, reader: Reader) -> Given
-    ensures { result ≡ record { number = number; rows = 0; bytes = 0; reader = reader } }
-{
-    Given {
-        number,
-        rows: 0,
-        bytes: 0,
-        reader,
     }
 }
 
@@ -148,7 +129,7 @@ impl Reader {
         }
     }
 
-    fn named(self) -> Column
+    fn named(self) -> Option<Column>
         ensures { result ≡ column_of self.kind self.encoding self.width }
     {
         format::column_of(self.kind, self.encoding, self.width)
@@ -208,15 +189,15 @@ impl Reader {
     pub fn remaining(self) -> Left
         ensures { result ≡ remaining_of self }
     {
-        let column = self.named();
-        let Column::Of { kind, encoding } = column else {
+        let found = self.named();
+        let Some(column) = found else {
             return Left {
                 number: refusal::DISAGREE,
                 rows: 0,
                 reader: self,
             };
         };
-        if self.wrong(kind, encoding) {
+        if self.wrong(column.kind, column.encoding) {
             return Left {
                 number: refusal::DISAGREE,
                 rows: 0,
@@ -232,26 +213,82 @@ impl Reader {
 
     // The tests of a read before any field, in their order; the block is `len` bytes long. They are one function and not the start of
     // `read`, so that the compiler takes the rows for what is likely to come.
-    fn tested(self, len: usize, skip: usize, size: usize) -> Tested
-        ensures { result ≡ tests_of self len skip size }
+    fn tested(self, len: usize, skip: usize, size: usize) -> Result<Column, Refusal>
+        ensures { by_number result ≡ tests_of self len skip size }
     {
         if nothing_asked(skip, size) {
-            return Tested::Refused(refusal::NO_ROWS);
+            return Err(Refusal::NoRows);
         }
-        let column = self.named();
-        let Column::Of { kind, encoding } = column else {
-            return Tested::Refused(refusal::DISAGREE);
+        let found = self.named();
+        let Some(column) = found else {
+            return Err(Refusal::Disagree);
         };
         if len != self.len {
-            return Tested::Refused(refusal::DISAGREE);
+            return Err(Refusal::Disagree);
         }
-        if self.wrong(kind, encoding) {
-            return Tested::Refused(refusal::DISAGREE);
+        if self.wrong(column.kind, column.encoding) {
+            return Err(Refusal::Disagree);
         }
         if self.rows - self.place < skip {
-            return Tested::Refused(refusal::TOO_FAR);
+            return Err(Refusal::TooFar);
         }
-        Tested::Fine { kind, encoding }
+        Ok(column)
+    }
+
+    // A read's answer as a record: a refused read leaves the reader where it is.
+    fn answered(self, answer: Result<Given, Refusal>) -> Given
+        ensures { result ≡ given_of self (by_number answer) }
+    {
+        match answer {
+            Ok(given) => given,
+            Err(refusal) => Given {
+                number: u8::from(refusal),
+                rows: 0,
+                bytes: 0,
+                reader: self,
+            },
+        }
+    }
+
+    // The rows given, or why there are none.
+    fn give(
+        self,
+        block: &[u8],
+        skip: usize,
+        size: usize,
+        values: &mut [i64],
+        flags: &mut [u8],
+        ends: &mut [u32],
+        bytes: &mut [u8],
+    ) -> Result<Given, Refusal>
+        ensures value { given_of self (by_number result) ≡ (read_of self block.now skip size (areas values.old flags.old ends.old bytes.old)).answer }
+        ensures values_after { values.new ≡ (read_of self block.now skip size (areas values.old flags.old ends.old bytes.old)).areas.values }
+        ensures flags_after { flags.new ≡ (read_of self block.now skip size (areas values.old flags.old ends.old bytes.old)).areas.flags }
+        ensures ends_after { ends.new ≡ (read_of self block.now skip size (areas values.old flags.old ends.old bytes.old)).areas.ends }
+        ensures bytes_after { bytes.new ≡ (read_of self block.now skip size (areas values.old flags.old ends.old bytes.old)).areas.bytes }
+    {
+        let column = self.tested(block.len(), skip, size)?;
+        let parts = anatomy::take_apart(
+            column.kind,
+            column.encoding,
+            self.rows,
+            self.len,
+            self.head,
+        );
+        let source = parts.source;
+        let there = pass(parts, self.start(source.coded), block, skip);
+        let Some(from) = there else {
+            return Err(Refusal::Disagree);
+        };
+        let n = area::least(size, self.rows - self.place - skip);
+        let filled = fill::write_rows(parts, from, block, n, values, flags, ends, bytes)?;
+        let nulls = nulls_given(source.marks, flags, n);
+        Ok(Given {
+            number: 0,
+            rows: n,
+            bytes: filled.bytes,
+            reader: self.moved(source.coded, skip + n, filled.next, nulls),
+        })
     }
 
     // Passes over `skip` rows, then gives up to `size` of those behind them; if that can't be done whole, nothing is.
@@ -271,30 +308,7 @@ impl Reader {
         ensures ends_after { ends.new ≡ (read_of self block.now skip size (areas values.old flags.old ends.old bytes.old)).areas.ends }
         ensures bytes_after { bytes.new ≡ (read_of self block.now skip size (areas values.old flags.old ends.old bytes.old)).areas.bytes }
     {
-        let tested = self.tested(block.len(), skip, size);
-        match tested {
-            Tested::Refused(number) => refused(number, self),
-            Tested::Fine { kind, encoding } => {
-                let parts = anatomy::take_apart(kind, encoding, self.rows, self.len, self.head);
-                let source = parts.source;
-                let there = pass(parts, self.start(source.coded), block, skip);
-                let Reached::At(from) = there else {
-                    return refused(refusal::DISAGREE, self);
-                };
-                let n = area::least(size, self.rows - self.place - skip);
-                let filled = fill::write_rows(parts, from, block, n, values, flags, ends, bytes);
-                if filled.number != 0 {
-                    return refused(filled.number, self);
-                }
-                let by = source.marks;
-                let nulls = nulls_given(by, flags, n);
-                Given {
-                    number: 0,
-                    rows: n,
-                    bytes: filled.bytes,
-                    reader: self.moved(source.coded, skip + n, filled.next, nulls),
-                }
-            }
-        }
+        let answer = self.give(block, skip, size, values, flags, ends, bytes);
+        self.answered(answer)
     }
 }

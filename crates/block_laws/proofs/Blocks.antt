@@ -1,4 +1,5 @@
 -- Our blocks are sound and hold what was given, for every pair of a kind and an encoding. Assumes nothing.
+use Rattle.std.specs.Prelude.{Option, Some}
 use Prim.Native.Nat.{ℕ, ◌^◌, ◌≤◌, ◌<◌}
 use native.Mathlib.Omega.{arith}
 use mathlib.Core.Bool.{true}
@@ -17,8 +18,7 @@ use Rattle.rle.specs.RunLength.{runs_of, run_length_of}
 use Rattle.format.specs.declared.Encoding.{Encoding}
 use Rattle.format.specs.declared.Encoding.TheVariants.{Plain, Nullable, RunLength, RunLengthNullable, Dictionary}
 use Rattle.format.specs.declared.Column.{Column}
-use Rattle.format.specs.declared.Column.TheVariants.{Of}
-use Rattle.format.specs.Blocks.{column_of, block_of, cut, stored_row, stored_form}
+use Rattle.format.specs.Blocks.{column_of, block_of, cut, stored_row, stored_form, column}
 use Rattle.format.specs.Opening.{rules_of, most_rows, column_number, open_number, head_of, row_at, counts_in, places_of, rows_of}
 use Rattle.format.specs.Sizes.{run_rows, stored_items, stored_entries, accepted}
 use Rattle.format.proofs.Within.{Limits}
@@ -165,7 +165,7 @@ few-enough k RunLengthNullable rows l = l.total
 few-enough k Dictionary rows l = l.total
 
 module _ (k : Kind) (e : Encoding) (rows : List Row) (a : accepted k e rows ≡ true) where
-  pub our-blocks-sound : column_number (Of k e) (length rows) (block_of k e rows) ≡ 0
+  pub our-blocks-sound : column_number (Some (column k e)) (length rows) (block_of k e rows) ≡ 0
   our-blocks-sound =
       let l : Limits k e rows = accepted-limits k e rows a in
       column-rules k e (length rows) (block_of k e rows) l.size (few-enough k e rows l)
@@ -173,9 +173,9 @@ module _ (k : Kind) (e : Encoding) (rows : List Row) (a : accepted k e rows ≡ 
 
   -- Opening takes the block of accepted rows, for each pair by its numbers.
   pub our-blocks-open :
-      (kind encoding width : ℕ) → column_of kind encoding width ≡ Of k e → open_number kind encoding width (length rows) (block_of k e rows) ≡ 0
+      (kind encoding width : ℕ) → column_of kind encoding width ≡ Some (column k e) → open_number kind encoding width (length rows) (block_of k e rows) ≡ 0
   unfolding open_number
-  our-blocks-open kind encoding width c = ap (λ (o : Column). column_number o (length rows) (block_of k e rows)) c ∙ our-blocks-sound
+  our-blocks-open kind encoding width c = ap (λ (o : Option Column). column_number o (length rows) (block_of k e rows)) c ∙ our-blocks-sound
 
   -- And the rows of that block are the accepted rows in their stored form.
   pub our-blocks-hold : rows_of k e (length rows) (block_of k e rows) ≡ stored_form k e rows

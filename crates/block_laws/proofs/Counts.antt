@@ -1,4 +1,5 @@
 -- A block is sound for one number of rows at most, for every pair: a block's bytes tell how many rows it holds. Assumes nothing.
+use Rattle.std.specs.Prelude.{Option, Some, None, Result, Ok}
 use Prim.Native.Nat.{ℕ, ◌+◌, ◌-◌, ◌*◌, ◌≤◌, ◌<◌}
 use native.Mathlib.Nat.{le_antisymm}
 use native.Mathlib.Omega.{arith}
@@ -15,8 +16,6 @@ use Rattle.encode.specs.declared.Shape.{Shape}
 use Rattle.encode.specs.declared.Shape.TheVariants.{Bool as BoolShape, Low2, Low4, Low8, High4, High8}
 use Rattle.encode.specs.declared.Kind.{Kind}
 use Rattle.encode.specs.declared.Kind.TheVariants.{Fixed, Char, Blob}
-use Rattle.encode.specs.declared.FoundKind.{FoundKind}
-use Rattle.encode.specs.declared.FoundKind.TheVariants.{Known, Unknown as UnknownKind}
 use Rattle.area.proofs.Laws.{lt-or-ge}
 use Rattle.plain.specs.Plain.{places, end_at, ends_of, rising, last_of, plain_number}
 use Rattle.plain.proofs.Items.{item_room}
@@ -24,13 +23,11 @@ use Rattle.plain.proofs.Numbers.{fixed_plain, char-plain, blobs-plain}
 use Rattle.plain.proofs.Places.{over_add}
 use Rattle.nullable.specs.Nullable.{bitmap_length, plain_part, nullable_number}
 use Rattle.nullable.proofs.Parts.{sound}
-use Rattle.rle.specs.declared.Walked.TheVariants.{Total}
 use Rattle.rle.specs.RunLength.{run_length_number}
 use Rattle.dict.specs.Dictionary.{dictionary_number}
 use Rattle.format.specs.declared.Encoding.{Encoding}
 use Rattle.format.specs.declared.Encoding.TheVariants.{Plain, Nullable, RunLength, RunLengthNullable, Dictionary}
 use Rattle.format.specs.declared.Column.{Column}
-use Rattle.format.specs.declared.Column.TheVariants.{Of, Unknown}
 use Rattle.format.specs.Blocks.{with_encoding, column_of}
 use Rattle.format.specs.Opening.{rules_of, column_number, open_number}
 use Rattle.format.proofs.Sound.{column-sound, runs-sound, dictionary-sound}
@@ -41,19 +38,19 @@ Wide (Fixed p) = Unit
 Wide (Char w) = 0 < w
 Wide (Blob text) = Unit
 
-abbrev WideKind : FoundKind → Type 0
-WideKind UnknownKind = Unit
-WideKind (Known k) = Wide k
+abbrev WideKind : Option Kind → Type 0
+WideKind None = Unit
+WideKind (Some k) = Wide k
 
-abbrev WideColumn : Column → Type 0
-WideColumn Unknown = Unit
-WideColumn (Of k e) = Wide k
+abbrev WideColumn : Option Column → Type 0
+WideColumn None = Unit
+WideColumn (Some c) = Wide c.kind
 
-either-kind : (t : Bool) (a b : FoundKind) → WideKind a → WideKind b → WideKind (cond t a b)
+either-kind : (t : Bool) (a b : Option Kind) → WideKind a → WideKind b → WideKind (cond t a b)
 either-kind true a b h k = h
 either-kind false a b h k = k
 
-either-column : (t : Bool) (a b : Column) → WideColumn a → WideColumn b → WideColumn (cond t a b)
+either-column : (t : Bool) (a b : Option Column) → WideColumn a → WideColumn b → WideColumn (cond t a b)
 either-column true a b h k = h
 either-column false a b h k = k
 
@@ -76,14 +73,14 @@ kind-wide : (k w : ℕ) → WideKind (kind_of k w)
 unfolding kind_of
 kind-wide k w = either-kind (eqb k 8) _ _ (char (eqb w 0) refl) (either-kind (eqb w 0) _ _ (numbered-wide k) tt)
   where
-    char : (t : Bool) → eqb w 0 ≡ t → WideKind (cond t UnknownKind (cond (ltb 255 w) UnknownKind (Known (Char w))))
+    char : (t : Bool) → eqb w 0 ≡ t → WideKind (cond t None (cond (ltb 255 w) None (Some (Char w))))
     char true e = tt
-    char false e = let n = eqb-false w 0 e in either-kind (ltb 255 w) UnknownKind (Known (Char w)) tt (omega arith)
+    char false e = let n = eqb-false w 0 e in either-kind (ltb 255 w) None (Some (Char w)) tt (omega arith)
 
-with-wide : (f : FoundKind) (e : ℕ) → WideKind f → WideColumn (with_encoding f e)
+with-wide : (f : Option Kind) (e : ℕ) → WideKind f → WideColumn (with_encoding f e)
 unfolding with_encoding
-with-wide UnknownKind e h = tt
-with-wide (Known k) e h =
+with-wide None e h = tt
+with-wide (Some k) e h =
     either-column (eqb e 0) _ _ h
     (either-column (eqb e 1) _ _ h
     (either-column (eqb e 2) _ _ h
@@ -169,7 +166,7 @@ nullable-count k w n m b h i =
     plain-count k w n m (plain_part n b) x.plain (rw e at y.plain)
 
 -- ---- blocks of runs: the sum of the counts
-total-one : {n m : ℕ} → Total n ≡ Total m → n ≡ m
+total-one : {n m : ℕ} → ◌≡◌ {A = Result ℕ ℕ} (Ok n) (Ok m) → n ≡ m
 total-one e = cc
 
 runs-count : (inner : ℕ → List ℕ → ℕ) (n m : ℕ) (b : List ℕ) → run_length_number inner n b ≡ 0 → run_length_number inner m b ≡ 0 → n ≡ m
@@ -187,12 +184,12 @@ rules-count k RunLength w n m b h i = runs-count (plain_number k) n m b h i
 rules-count k RunLengthNullable w n m b h i = runs-count (nullable_number k) n m b h i
 rules-count k Dictionary w n m b h i = dictionary-count k n m b h i
 
-column-count : (c : Column) → WideColumn c → (n m : ℕ) (b : List ℕ) → column_number c n b ≡ 0 → column_number c m b ≡ 0 → n ≡ m
-column-count Unknown w n m b h i = absurd (never h)
+column-count : (c : Option Column) → WideColumn c → (n m : ℕ) (b : List ℕ) → column_number c n b ≡ 0 → column_number c m b ≡ 0 → n ≡ m
+column-count None w n m b h i = absurd (never h)
   where
-    never : column_number Unknown n b ≡ 0 → ⊥
+    never : column_number None n b ≡ 0 → ⊥
     never e = unfold column_number in omega arith
-column-count (Of k e) w n m b h i = rules-count k e w n m b (column-sound k e n b h).rules (column-sound k e m b i).rules
+column-count (Some c) w n m b h i = rules-count c.kind c.encoding w n m b (column-sound c.kind c.encoding n b h).rules (column-sound c.kind c.encoding m b i).rules
 
 -- No block opens with two numbers of rows.
 pub one-row-count :

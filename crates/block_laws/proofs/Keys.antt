@@ -1,4 +1,5 @@
 -- A dictionary block with a key that names no entry is refused, and a null that is read of a sound one comes from null's own key. Assumes nothing.
+use Rattle.std.specs.Prelude.{Option, Some}
 use Prim.Native.Nat.{ℕ, zero, suc, ◌-◌, ◌≤◌, ◌<◌}
 use native.Mathlib.Nat.{zero-add}
 use native.Mathlib.Omega.{arith}
@@ -20,8 +21,7 @@ use Rattle.dict.specs.Dictionary.{null_key, slot_at, entry_row}
 use Rattle.dict.proofs.Slots.{known_at}
 use Rattle.format.specs.declared.Encoding.TheVariants.{Dictionary}
 use Rattle.format.specs.declared.Column.{Column}
-use Rattle.format.specs.declared.Column.TheVariants.{Of}
-use Rattle.format.specs.Blocks.{column_of}
+use Rattle.format.specs.Blocks.{column_of, column}
 use Rattle.format.specs.Opening.{column_number, open_number, head_of, row_at, counts_in, places_of, rows_of}
 use Rattle.format.proofs.Sound.{column-sound, keys-sound}
 use Rattle.block_laws.specs.Keys.{keys_in, key_at}
@@ -59,10 +59,10 @@ slot-zero (negsuc n) h = go (ltb 2147483648 (suc n)) refl h
     go true e q = absurd (omega arith)
     go false e q = let l = ltb-false 2147483648 (suc n) e in let m : n ≡ 2147483647 = omega arith in ap negsuc m
 
-module _ (kind encoding width n : ℕ) (b : List ℕ) (k : Kind) (c : column_of kind encoding width ≡ Of k Dictionary) where
-  sound : open_number kind encoding width n b ≡ 0 → column_number (Of k Dictionary) n b ≡ 0
+module _ (kind encoding width n : ℕ) (b : List ℕ) (k : Kind) (c : column_of kind encoding width ≡ Some (column k Dictionary)) where
+  sound : open_number kind encoding width n b ≡ 0 → column_number (Some (column k Dictionary)) n b ≡ 0
   unfolding open_number
-  sound h = ap (λ (x : Column). column_number x n b) (sym c) ∙ h
+  sound h = ap (λ (x : Option Column). column_number x n b) (sym c) ∙ h
 
   -- In a block that opens, each key is null's or names an entry.
   pub keys-name-entries :

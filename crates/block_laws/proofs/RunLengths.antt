@@ -1,5 +1,6 @@
 -- The run-length block of rows over any inner block: its parts, and that no rule refuses it if none of the inner rules refuses the inner block.
 -- Assumes nothing.
+use Rattle.std.specs.Prelude.{Ok, Some}
 use Prim.Native.Nat.{ℕ, suc, ◌+◌, ◌-◌, ◌^◌, ◌≤◌, ◌<◌}
 use native.Mathlib.Nat.{zero-add}
 use native.Mathlib.Omega.{arith}
@@ -11,10 +12,8 @@ use Rattle.encode.specs.Bytes.{little, low_first}
 use Rattle.encode.proofs.RoundTrip.{number-bytes}
 use Rattle.limits.specs.Limits.{MOST_ITEMS}
 use Rattle.plain.specs.Rows.{Row, null}
-use Rattle.rle.specs.declared.Walked.TheVariants.{Total}
-use Rattle.rle.specs.declared.RunHead.TheVariants.{Runs}
 use Rattle.rle.specs.RunLength.{Run, runs_of, counts_of, run_length_of, runs_in, counts_length, counts_part, inner_part, walked, run_length_number, run_numbers}
-use Rattle.rle.specs.Pieces.{head_found, number_by}
+use Rattle.rle.specs.Pieces.{head_found, number_by, run_head}
 use Rattle.rle.proofs.Opening.{head-number, sum-right}
 use Rattle.format.specs.Sizes.{run_rows}
 use Rattle.block_laws.proofs.Runs.{spread, spread-runs, counted-runs, walk-runs, over_runs}
@@ -84,10 +83,10 @@ module _ (build : List Row → List ℕ) (x : Row) (xs : List Row) (few : length
   unfolding run_length_of run_rows
   inner-part-of-block = inner-part (length (runs_of rows)) counts (build (run_rows rows))
 
-  sum-of-block : walked (length (runs_of rows)) counts ≡ Total (length rows)
-  sum-of-block = walk-runs (runs_of rows) (counted-runs rows) ∙ ap (λ (l : List Row). Total (length l)) (spread-runs rows)
+  sum-of-block : walked (length (runs_of rows)) counts ≡ Ok (length rows)
+  sum-of-block = walk-runs (runs_of rows) (counted-runs rows) ∙ ap (λ (l : List Row). Ok (length l)) (spread-runs rows)
 
-  head-of-block : Runs (length (runs_of rows)) (length counts) ≡ head_found (length rows) block
+  head-of-block : Ok (Some (run_head (length (runs_of rows)) (length counts))) ≡ head_found (length rows) block
   unfolding runs_in counts_length counts_part
   head-of-block =
       let m : 8 + length counts - 8 ≡ length counts = omega arith in

@@ -1,5 +1,6 @@
 -- The runs of a list of rows: spread out again they are the rows; a count is between 1 and 4,294,967,295; the counts' bytes are walked and read
 -- back as they were written. Assumes nothing.
+use Rattle.std.specs.Prelude.{Ok}
 use Prim.Native.Nat.{ℕ, zero, suc, ◌+◌, ◌-◌, ◌^◌, ◌<◌}
 use native.Mathlib.Nat.{zero-add, add-zero}
 use native.Mathlib.Numerals.{add-one}
@@ -12,15 +13,13 @@ use lib.ListN.{length, get_or, replicate, length-append, length-replicate}
 use lib.Seq.{drop-append_seam}
 use borrow.Author.Tests.{ltb-true}
 use Rattle.limits.specs.Limits.{MOST_COUNT}
-use Rattle.varint.specs.declared.Count.TheVariants.{Number}
-use Rattle.varint.specs.Varint.{count_of, count_at, spelling}
+use Rattle.varint.specs.Varint.{count_of, count_at, spelling, counted}
 use Rattle.varint.proofs.Within.{at-within}
 use Rattle.varint.proofs.RoundTrip.{round_trip}
 use Rattle.plain.specs.Each.{Each}
 use Rattle.plain.specs.Rows.{Row, null, same}
 use Rattle.plain.specs.Plain.{joined}
 use Rattle.plain.proofs.Same.{same-equal}
-use Rattle.rle.specs.declared.Walked.TheVariants.{Total}
 use Rattle.rle.specs.RunLength.{Run, run, runs_from, runs_of, counts_of, plus, walked, as_often, run_numbers}
 use Rattle.rle.proofs.Walking.{good-run}
 use Rattle.rle.proofs.Folds.{map_rows}
@@ -100,7 +99,7 @@ module _ (r : Run) (rs : List Run) (c : Counted r) where
   abbrev first : List ℕ
   first = spelling r.count
 
-  read_first : count_of (first ++ counts_of rs) ≡ Number r.count (length first)
+  read_first : count_of (first ++ counts_of rs) ≡ counted r.count (length first)
   read_first = round_trip r.count (counts_of rs) c.1
 
   -- the walk adds the first count to what the rest comes to
@@ -119,13 +118,13 @@ module _ (r : Run) (rs : List Run) (c : Counted r) where
   unfolding run_numbers as_often
   number-first n i = rw (read_first, drop-append_seam first (counts_of rs))
 
-pub walk-runs : (rs : List Run) → Each Counted rs → walked (length rs) (counts_of rs) ≡ Total (length (spread rs))
+pub walk-runs : (rs : List Run) → Each Counted rs → walked (length rs) (counts_of rs) ≡ Ok (length (spread rs))
 unfolding spread counts_of joined plus
 walk-runs [] h = unfold walked in refl
 walk-runs (r ∷ rs) h =
     walk_first r rs h.0 (length rs)
     ∙ ap (plus r.count) (walk-runs rs h.1)
-    ∙ ap Total (sym (length-append (replicate r.count r.row) (spread rs)
+    ∙ ap Ok (sym (length-append (replicate r.count r.row) (spread rs)
     ∙ ap (λ (n : ℕ). n + length (spread rs)) (length-replicate r.count r.row)))
 
 -- what a function gives of each row's run is what another gives of the row, if they agree on each run and its row

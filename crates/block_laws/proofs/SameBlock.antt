@@ -1,4 +1,5 @@
 -- Two lists of rows that give the same block have the same stored form, whatever their lengths, for every pair. Assumes nothing.
+use Rattle.std.specs.Prelude.{Some}
 use Prim.Native.Nat.{ℕ}
 use mathlib.Core.Bool.{true}
 use mathlib.Core.List.{List, [], ◌∷◌}
@@ -11,8 +12,7 @@ use Rattle.plain.specs.Rows.{Row, bytes, bytes_in, fits}
 use Rattle.plain.specs.Plain.{joined, item_of, plain_of}
 use Rattle.format.specs.declared.Encoding.{Encoding}
 use Rattle.format.specs.declared.Encoding.TheVariants.{Plain}
-use Rattle.format.specs.declared.Column.TheVariants.{Of}
-use Rattle.format.specs.Blocks.{column_of, block_of, stored_form}
+use Rattle.format.specs.Blocks.{column_of, block_of, stored_form, column}
 use Rattle.format.specs.Opening.{open_number, rows_of}
 use Rattle.format.specs.Sizes.{stored_items, stored_entries, within_limits, all_fit, accepted}
 use Rattle.block_laws.proofs.Blocks.{our-blocks-open, our-blocks-hold}
@@ -27,7 +27,7 @@ unfolding accepted all_fit within_limits stored_items stored_entries fits is_tex
 width-0-tells-nothing = (refl, refl, refl)
 
 -- So the pair is named by its numbers.
-module _ (kind encoding width : ℕ) (k : Kind) (e : Encoding) (c : column_of kind encoding width ≡ Of k e) (xs ys : List Row)
+module _ (kind encoding width : ℕ) (k : Kind) (e : Encoding) (c : column_of kind encoding width ≡ Some (column k e)) (xs ys : List Row)
     (a : accepted k e xs ≡ true) (b : accepted k e ys ≡ true) (same : block_of k e xs ≡ block_of k e ys) where
   pub same-block-same-length : length xs ≡ length ys
   same-block-same-length =

@@ -1,175 +1,122 @@
 // Commands on the record, on what is lent and on what is shown.
-use crate::State;
-use builder::{Builder, Created};
-use cells::Lent;
-use script::{number, past, say, show, show_byte, show_size};
-use trial::{show_bool, show_builder};
+use crate::{State, View};
+use builder::Builder;
+use cells::{Area, Lent};
+use limits::refusal::Refusal;
+use script::{Input, say, show, show_byte};
+use trial::show_builder;
 
-pub fn start() -> State {
-    State {
-        at: 0,
-        view: 1,
-        lent: Lent {
-            items: 0,
-            ends: 0,
-            flags: 0,
-            counts: 0,
-            keys: 0,
-            lens: 0,
-        },
-        builder: trial::no_builder(),
-        number: 0,
-    }
-}
-
-fn with_lent(lent: Lent, area: usize, n: usize) -> Lent {
-    let mut next = lent;
-    match area {
-        0 => next.items = n,
-        1 => next.ends = n,
-        2 => next.flags = n,
-        3 => next.counts = n,
-        4 => next.keys = n,
-        _ => next.lens = n,
-    }
-    next
-}
-
-fn lend(s: &[u8], state: State) -> State {
-    let area = number(s, state.at);
-    let n = number(s, area.next);
-    say(b"lend");
-    let lent = with_lent(state.lent, area.value, n.value);
-    let mut next = state;
-    next.at = n.next;
-    next.lent = lent;
-    next
-}
-
-fn view(s: &[u8], state: State) -> State {
-    let n = number(s, state.at);
-    say(b"view");
-    let mut next = state;
-    next.at = n.next;
-    next.view = n.value;
-    next
-}
-
-// The state after a command with the record that it handed back, and the place after it.
-fn after(state: State, at: usize, builder: Builder) -> State {
-    let mut next = state;
-    next.at = at;
-    next.builder = builder;
-    next
-}
-
-fn set(s: &[u8], state: State) -> State {
-    let field = number(s, state.at);
-    let value = number(s, field.next);
-    say(b"set");
-    after(
-        state,
-        value.next,
-        trial::with(state.builder, field.value, value.value),
-    )
-}
-
-fn created(answer: Created) -> Builder {
+fn created(answer: Result<Builder, Refusal>) -> Builder {
     say(b"create");
     match answer {
-        Created::New(b) => {
+        Ok(b) => {
             show(0);
             show_builder(b);
             b
         }
-        Created::Refused(number) => {
-            show_byte(number);
+        Err(refusal) => {
+            show_byte(u8::from(refusal));
             trial::no_builder()
         }
     }
 }
 
-// What a creation is given: the numbers of a column, the target, and the place after them.
+// What a creation is given: the numbers of a column, and the target.
 #[derive(Clone, Copy)]
 struct Wanted {
     kind: usize,
     encoding: usize,
     width: usize,
     target: usize,
-    next: usize,
 }
 
-fn wanted_at(s: &[u8], at: usize) -> Wanted {
-    let kind = number(s, at);
-    let encoding = number(s, kind.next);
-    let width = number(s, encoding.next);
-    let target = number(s, width.next);
-    Wanted {
-        kind: kind.value,
-        encoding: encoding.value,
-        width: width.value,
-        target: target.value,
-        next: target.next,
+impl Wanted {
+    fn taken(input: &mut Input) -> Wanted {
+        Wanted {
+            kind: input.number(),
+            encoding: input.number(),
+            width: input.number(),
+            target: input.number(),
+        }
     }
 }
 
-fn create(s: &[u8], state: State) -> State {
-    let wanted = wanted_at(s, state.at);
-    let answer = builder::create(wanted.kind, wanted.encoding, wanted.width, wanted.target);
-    after(state, wanted.next, created(answer))
-}
+impl<'a> State<'a> {
+    // The state before the first command.
+    pub fn new(bytes: &'a [u8]) -> State<'a> {
+        State {
+            input: Input::new(bytes),
+            view: View::Refused,
+            lent: Lent {
+                items: 0,
+                ends: 0,
+                flags: 0,
+                counts: 0,
+                keys: 0,
+                lens: 0,
+            },
+            builder: trial::no_builder(),
+            number: 0,
+        }
+    }
 
-fn create_with_key_target(s: &[u8], state: State) -> State {
-    let wanted = wanted_at(s, state.at);
-    let key = number(s, wanted.next);
-    let answer = builder::create_with_key_target(
-        wanted.kind,
-        wanted.encoding,
-        wanted.width,
-        wanted.target,
-        key.value,
-    );
-    after(state, key.next, created(answer))
-}
+    pub fn create(&mut self) {
+        let wanted = Wanted::taken(&mut self.input);
+        let answer = builder::create(wanted.kind, wanted.encoding, wanted.width, wanted.target);
+        self.builder = created(answer);
+    }
 
-fn estimate(state: State) -> State {
-    let builder = state.builder;
-    let answer = builder.estimate();
-    say(b"estimate");
-    show_byte(answer.number);
-    show_size(answer.size);
-    after(state, state.at, answer.builder)
-}
+    pub fn create_with_key_target(&mut self) {
+        let wanted = Wanted::taken(&mut self.input);
+        let answer = builder::create_with_key_target(
+            wanted.kind,
+            wanted.encoding,
+            wanted.width,
+            wanted.target,
+            self.input.number(),
+        );
+        self.builder = created(answer);
+    }
 
-fn should_finish(s: &[u8], state: State) -> State {
-    let presence = number(s, state.at);
-    let len = number(s, presence.next);
-    let builder = state.builder;
-    let answer = builder.should_finish(presence.value != 0, len.value);
-    say(b"should");
-    show_byte(answer.number);
-    show_bool(answer.full);
-    after(state, len.next, answer.builder)
-}
+    pub fn estimate(&mut self) {
+        let answer = self.builder.estimate();
+        say(b"estimate");
+        show(answer.number);
+        show(answer.size);
+        self.builder = answer.builder;
+    }
 
-fn show_all(state: State) -> State {
-    say(b"show");
-    state
-}
+    pub fn should_finish(&mut self) {
+        let present = self.input.number() != 0;
+        let answer = self.builder.should_finish(present, self.input.number());
+        say(b"should");
+        show(answer.number);
+        show(answer.full);
+        self.builder = answer.builder;
+    }
 
-// The other commands start here too: they are run where the areas are.
-pub fn begin(s: &[u8], from: State, command: u8) -> State {
-    let mut state = from;
-    state.at = past(from.at, 1);
-    match command {
-        0 => create(s, state),
-        1 | 2 | 3 | 7 | 11 | 13 => state,
-        4 => estimate(state),
-        5 => should_finish(s, state),
-        6 => set(s, state),
-        8 => lend(s, state),
-        10 => show_all(state),
-        12 => create_with_key_target(s, state),
-        _ => view(s, state),
+    pub fn set(&mut self) {
+        say(b"set");
+        let field = self.input.number();
+        self.builder = trial::with(self.builder, field, self.input.number());
+    }
+
+    pub fn lend(&mut self) {
+        say(b"lend");
+        let area = Area::from(self.input.number());
+        let n = self.input.number();
+        match area {
+            Area::Items => self.lent.items = n,
+            Area::Ends => self.lent.ends = n,
+            Area::Flags => self.lent.flags = n,
+            Area::Counts => self.lent.counts = n,
+            Area::Keys => self.lent.keys = n,
+            Area::Lens | Area::Room => self.lent.lens = n,
+        }
+    }
+
+    pub fn set_view(&mut self) {
+        say(b"view");
+        self.view = View::from(self.input.number());
     }
 }

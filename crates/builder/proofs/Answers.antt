@@ -1,4 +1,5 @@
 -- The answers of creation, append, estimate and should_finish, on each way through the code. Assumes nothing.
+use Rattle.step.specs.Counting.{Next}
 use Prim.Native.Nat.{ℕ}
 use mathlib.Core.Path.{◌≡◌, refl, sym, ap, subst, ◌∙◌}
 use mathlib.Core.Bool.{Bool, true, false}
@@ -12,34 +13,32 @@ use Rattle.encode.specs.declared.Kind.{Kind}
 use Rattle.plain.specs.Rows.{row_of}
 use Rattle.format.specs.declared.Encoding.{Encoding}
 use Rattle.format.specs.declared.Column.{Column}
-use Rattle.format.specs.declared.Column.TheVariants.{Of, Unknown}
-use Rattle.format.specs.Blocks.{column_of}
+use Rattle.format.specs.Blocks.{column_of, column}
 use Rattle.needs.specs.Needs.{record_wrong}
 use Rattle.sizes.specs.Sizes.{size_by, full_by}
-use Rattle.step.specs.declared.Next.{Next}
 use Rattle.append.specs.Appending.{Lent, lent, Added, added_to}
 use Rattle.copies.specs.Copies.{added_times}
 use Rattle.copies_laws.proofs.Answers.{once, copies-refused-keep}
 use Rattle.builder.specs.declared.Builder.{Builder}
-use Rattle.builder.specs.declared.Created.TheVariants.{New, Refused}
+use Rattle.std.specs.Prelude.{Ok, Err, Option, Some, None}
 use Rattle.builder.specs.declared.Appended.{Appended}
 use Rattle.builder.specs.Building.{empty, created_in, created, counting, Append, append_with, appended_in, appended, appended_times_in, appended_times}
 use Rattle.builder.specs.Finishing.{estimated_as, estimated_in, estimated, asked_as, asked_in, asked}
 
 -- ---- creation
-module _ (kind encoding width target key : ℕ) {c : Column} (p : c ≡ column_of kind encoding width) where
-  pub refused : c ≡ Unknown → Refused COLUMN ≡ created kind encoding width target key
+module _ (kind encoding width target key : ℕ) {c : Option Column} (p : c ≡ column_of kind encoding width) where
+  pub refused : c ≡ None → Err COLUMN ≡ created kind encoding width target key
   unfolding created created_in
   refused q = rw (← p, q)
 
-  pub new : {k : Kind} {e : Encoding} → c ≡ Of k e → {r : Builder} → r ≡ empty kind encoding width target key → New r ≡ created kind encoding width target key
+  pub new : {k : Kind} {e : Encoding} → c ≡ Some (column k e) → {r : Builder} → r ≡ empty kind encoding width target key → Ok r ≡ created kind encoding width target key
   unfolding created created_in
   new q h = rw (h, ← p, q)
 
-once-in : (c : Column) (r : Builder) (a : Lent) (present : Bool) (v : ℤ) (bs : List ℕ) → appended_times_in c r a 1 present v bs ≡ appended_in c r a present v bs
+once-in : (c : Option Column) (r : Builder) (a : Lent) (present : Bool) (v : ℤ) (bs : List ℕ) → appended_times_in c r a 1 present v bs ≡ appended_in c r a present v bs
 unfolding appended_times_in appended_in
-once-in Unknown r a present v bs = refl
-once-in (Of k e) r a present v bs = ap (append_with r) (once k e r.counted a (row_of k present v bs))
+once-in None r a present v bs = refl
+once-in (Some c) r a present v bs = ap (append_with r) (once c.kind c.encoding r.counted a (row_of c.kind present v bs))
 
 -- ---- append: what is said of the answer and of the areas, from the whole
 abbrev pub Says : Append → Appended → Lent → Type 0
@@ -52,14 +51,14 @@ Says x n a =
 says : (x : Append) {n : Appended} {a : Lent} → record { answer = n; areas = a } ≡ x → Says x n a
 says x q = rw (← q) (refl, (refl, (refl, (refl, (refl, (refl, refl))))))
 
-module _ (r : Builder) (a : Lent) (m : ℕ) (present : Bool) (v : ℤ) (bs : List ℕ) {c : Column} (q : c ≡ column_of r.kind r.encoding r.width) where
-  pub append-unknown : c ≡ Unknown → Says (appended_times r a m present v bs) (record { number = DISAGREE; builder = r }) a
+module _ (r : Builder) (a : Lent) (m : ℕ) (present : Bool) (v : ℤ) (bs : List ℕ) {c : Option Column} (q : c ≡ column_of r.kind r.encoding r.width) where
+  pub append-unknown : c ≡ None → Says (appended_times r a m present v bs) (record { number = DISAGREE; builder = r }) a
   unfolding appended_times appended_times_in
   append-unknown t = says (appended_times r a m present v bs) (rw (← q, t))
 
   -- the integer has been passed on
   pub append-known :
-      {k : Kind} {e : Encoding} → c ≡ Of k e → SFits w64 v → {n : Next} {b : Lent}
+      {k : Kind} {e : Encoding} → c ≡ Some (column k e) → SFits w64 v → {n : Next} {b : Lent}
       → added_to n b ≡ added_times k e r.counted a m (row_of k present (to_z w64 (of_z w64 v)) bs)
       → {s : Builder} → s ≡ counting r n.counted → Says (appended_times r a m present v bs) (record { number = n.number; builder = s }) b
   unfolding appended_times appended_times_in
@@ -69,7 +68,7 @@ module _ (r : Builder) (a : Lent) (m : ℕ) (present : Bool) (v : ℤ) (bs : Lis
       says (appended_times r a m present v bs) (rw (w, ← q, t) (ap (append_with r) g))
 
   -- it is refused, or done
-  module _ {k : Kind} {e : Encoding} (t : c ≡ Of k e) (f : SFits w64 v) {n : Next} {b : Lent}
+  module _ {k : Kind} {e : Encoding} (t : c ≡ Some (column k e)) (f : SFits w64 v) {n : Next} {b : Lent}
       (h : added_to n b ≡ added_times k e r.counted a m (row_of k present (to_z w64 (of_z w64 v)) bs)) where
     pub append-refused : (n.number ≡ 0 → ⊥) → Says (appended_times r a m present v bs) (record { number = n.number; builder = r }) b
     append-refused d =
@@ -91,16 +90,16 @@ said-once r a present v bs f {x} {is} {es} {fs} {cs} {ls} {ks} h =
     subst (λ (y : Append). Says y x (lent is es fs cs ks ls)) (ap (λ (z : ℤ). appended_times r a 1 present z bs) (to_z-of_z f) ∙ append-once r a present v bs) h
 
 -- ---- estimate and should_finish
-module _ (r : Builder) {c : Column} (p : c ≡ column_of r.kind r.encoding r.width) where
-  pub estimate-unknown : c ≡ Unknown → estimated_as DISAGREE 0 r ≡ estimated r
+module _ (r : Builder) {c : Option Column} (p : c ≡ column_of r.kind r.encoding r.width) where
+  pub estimate-unknown : c ≡ None → estimated_as DISAGREE 0 r ≡ estimated r
   unfolding estimated estimated_in
   estimate-unknown q = rw (← p, q)
 
-  pub asked-unknown : (present : Bool) (len : ℕ) → c ≡ Unknown → asked_as DISAGREE false r ≡ asked r present len
+  pub asked-unknown : (present : Bool) (len : ℕ) → c ≡ None → asked_as DISAGREE false r ≡ asked r present len
   unfolding asked asked_in
   asked-unknown present len q = rw (← p, q)
 
-  module _ {k : Kind} {e : Encoding} (q : c ≡ Of k e) {x : Bool} (o : x ≡ record_wrong k e r.counted) where
+  module _ {k : Kind} {e : Encoding} (q : c ≡ Some (column k e)) {x : Bool} (o : x ≡ record_wrong k e r.counted) where
     pub estimate-wrong : x ≡ true → estimated_as DISAGREE 0 r ≡ estimated r
     unfolding estimated estimated_in
     estimate-wrong t = rw (← p, q, ← o, t)

@@ -1,4 +1,5 @@
 -- Finish: what the areas hold, the length of the block, and the answer on each way through the code. Assumes nothing.
+use Rattle.std.specs.Prelude.{Option, Some, None}
 use Prim.Native.Nat.{ℕ, ◌+◌, ◌*◌, ◌≤◌, ◌<◌}
 use native.Mathlib.Omega.{arith}
 use mathlib.Core.Path.{◌≡◌, refl, sym, ap, subst, ◌∙◌}
@@ -17,8 +18,7 @@ use Rattle.nullable.specs.Nullable.{bitmap_length}
 use Rattle.format.specs.declared.Encoding.{Encoding}
 use Rattle.format.specs.declared.Encoding.TheVariants.{Plain, Nullable, RunLength, RunLengthNullable, Dictionary}
 use Rattle.format.specs.declared.Column.{Column}
-use Rattle.format.specs.declared.Column.TheVariants.{Of, Unknown}
-use Rattle.format.specs.Blocks.{column_of}
+use Rattle.format.specs.Blocks.{column_of, column}
 use Rattle.emit.proofs.Lengths.{ends_length, length-plain, flags_length, length-inner, no-runs, length_runs, no_keys, length-keys, length-dictionary}
 use Rattle.emit.specs.Parts.{held_plain, held_inner, held_counts, held_runs, held_keys, held_dictionary}
 use Rattle.limits.specs.Limits.{MOST_ITEMS, MOST_ENTRIES, MOST_BYTES}
@@ -69,12 +69,12 @@ pub ready-apart : {k : Kind} {e : Encoding} {r : Counted} {a : Lent} → Ready k
 ready-apart h = record { few = h.few; entries = h.entries; runs = h.runs; items = h.items; ends = h.ends; flags = h.flags; counts = h.counts; keys = h.keys }
 
 -- ---- the answer
-module _ (r : Builder) (a : Lent) (out : List ℕ) {c : Column} (q : c ≡ column_of r.kind r.encoding r.width) where
-  pub column-none : c ≡ Unknown → finished r a out ≡ finish_of DISAGREE 0 r out
+module _ (r : Builder) (a : Lent) (out : List ℕ) {c : Option Column} (q : c ≡ column_of r.kind r.encoding r.width) where
+  pub column-none : c ≡ None → finished r a out ≡ finish_of DISAGREE 0 r out
   unfolding finished finished_in
   column-none t = rw (← q, t)
 
-  module _ {k : Kind} {e : Encoding} (t : c ≡ Of k e) where
+  module _ {k : Kind} {e : Encoding} (t : c ≡ Some (column k e)) where
     pub not-agreed : disagree k e r.counted (room_of a) ≡ true → finished r a out ≡ finish_of DISAGREE 0 r out
     unfolding finished finished_in
     not-agreed h = rw (← q, t, h)

@@ -7,8 +7,8 @@ use lib.IntN.{pos, negsuc}
 use lib.ListN.{take, replicate}
 use Rattle.plain.specs.Rows.{Row, null, int, bytes, int_in, bytes_in, interval}
 use Rattle.append.specs.Appending.{Lent, lent}
-use Rattle.builder.specs.declared.Created.{Created}
-use Rattle.builder.specs.declared.Created.TheVariants.{New, Refused}
+use Rattle.builder.specs.declared.Builder.{Builder}
+use Rattle.std.specs.Prelude.{Result, Ok, Err}
 use Rattle.builder.specs.Building.{Append, append_of, created, appended}
 use Rattle.builder.specs.Finishing.{Finish, finish_of, finished, estimated}
 use Rattle.varint.specs.Varint as Varint
@@ -44,9 +44,9 @@ unfoldable append : Append → List Row → Append
 append s [] = s
 append s (row ∷ rows) = append (appended s.answer.builder s.areas (is_present row) (int_in row) (bytes_in row)) rows
 
-unfoldable build : Created → List Row → Append
-build (Refused e) rows = append_of e (Building.empty 255 0 0 0 0) room
-build (New r) rows = append (append_of 0 r room) rows
+unfoldable build : Result Builder ℕ → List Row → Append
+build (Err e) rows = append_of e (Building.empty 255 0 0 0 0) room
+build (Ok r) rows = append (append_of 0 r room) rows
 
 unfoldable finish : Append → Finish
 finish s = finished s.answer.builder s.areas (replicate 60 9)

@@ -1,17 +1,14 @@
 -- 01, "Building": creation and append as functions of the record, the row and what the lent areas hold, for every record and all memory. Assumes
 -- nothing.
-use Rattle.std.specs.Prelude.{ℕ, Bool, List, ℤ}
+use Rattle.std.specs.Prelude.{ℕ, Result, Ok, Err, Bool, List, ℤ, Option, Some, None}
 use Rattle.limits.specs.Refusals.{COLUMN, DISAGREE}
 use Rattle.plain.specs.Rows.{row_of}
 use Rattle.format.specs.declared.Column.{Column}
-use Rattle.format.specs.declared.Column.TheVariants.{Of, Unknown}
 use Rattle.format.specs.Blocks.{column_of}
 use Rattle.needs.specs.declared.Counted.{Counted}
 use Rattle.append.specs.Appending.{Lent, Added, added}
 use Rattle.copies.specs.Copies.{added_times}
 use Rattle.builder.specs.declared.Builder.{Builder}
-use Rattle.builder.specs.declared.Created.{Created}
-use Rattle.builder.specs.declared.Created.TheVariants.{New, Refused}
 use Rattle.builder.specs.declared.Appended.{Appended}
 
 -- ---- creation, with a target and a target of the keys: a record with nothing counted, or 1
@@ -22,11 +19,11 @@ abbrev pub empty : ℕ → ℕ → ℕ → ℕ → ℕ → Builder
 empty kind encoding width target key =
     record { kind = kind; encoding = encoding; width = width; target = target; keytarget = key; counted = none_counted }
 
-unfoldable pub created_in : Column → Builder → Created
-created_in Unknown r = Refused COLUMN
-created_in (Of k e) r = New r
+unfoldable pub created_in : Option Column → Builder → Result Builder ℕ
+created_in None r = Err COLUMN
+created_in (Some c) r = Ok r
 
-unfoldable pub created : ℕ → ℕ → ℕ → ℕ → ℕ → Created
+unfoldable pub created : ℕ → ℕ → ℕ → ℕ → ℕ → Result Builder ℕ
 created kind encoding width target key = created_in (column_of kind encoding width) (empty kind encoding width target key)
 
 -- ---- append: 9 for the record, the areas and the fields, 2, 3, 4; a refusal gives back what it was given
@@ -45,18 +42,18 @@ counting r c =
 abbrev pub append_with : Builder → Added → Append
 append_with r x = append_of x.answer.number (counting r x.answer.counted) x.areas
 
-unfoldable pub appended_in : Column → Builder → Lent → Bool → ℤ → List ℕ → Append
-appended_in Unknown r a present v bs = append_of DISAGREE r a
-appended_in (Of k e) r a present v bs = append_with r (added k e r.counted a (row_of k present v bs))
+unfoldable pub appended_in : Option Column → Builder → Lent → Bool → ℤ → List ℕ → Append
+appended_in None r a present v bs = append_of DISAGREE r a
+appended_in (Some c) r a present v bs = append_with r (added c.kind c.encoding r.counted a (row_of c.kind present v bs))
 
 -- one row: whether it is present, its integer and its bytes
 unfoldable pub appended : Builder → Lent → Bool → ℤ → List ℕ → Append
 appended r a present v bs = appended_in (column_of r.kind r.encoding r.width) r a present v bs
 
 -- 02 (v): that row n times, all or none
-unfoldable pub appended_times_in : Column → Builder → Lent → ℕ → Bool → ℤ → List ℕ → Append
-appended_times_in Unknown r a n present v bs = append_of DISAGREE r a
-appended_times_in (Of k e) r a n present v bs = append_with r (added_times k e r.counted a n (row_of k present v bs))
+unfoldable pub appended_times_in : Option Column → Builder → Lent → ℕ → Bool → ℤ → List ℕ → Append
+appended_times_in None r a n present v bs = append_of DISAGREE r a
+appended_times_in (Some c) r a n present v bs = append_with r (added_times c.kind c.encoding r.counted a n (row_of c.kind present v bs))
 
 unfoldable pub appended_times : Builder → Lent → ℕ → Bool → ℤ → List ℕ → Append
 appended_times r a n present v bs = appended_times_in (column_of r.kind r.encoding r.width) r a n present v bs

@@ -1,14 +1,14 @@
 -- 01, "Building" and "Sizes": finish, the estimated size and should_finish as functions of the record and what the lent areas hold, for every record
 -- and all memory. Each hands the record back as it was given, whether it refuses or not. Assumes nothing.
-use Rattle.std.specs.Prelude.{ℕ, Bool, true, false, cond, List, ltb, length}
-use Rattle.limits.specs.Refusals.{ROOM, DISAGREE}
+use Rattle.std.specs.Prelude.{ℕ, Result, Ok, Err, Bool, true, false, cond, List, ltb, length, Option, Some, None}
+use Rattle.limits.specs.declared.refusal.Refusal.{Refusal}
+use Rattle.limits.specs.Refusals.{ROOM, DISAGREE, refusal_number}
 use Rattle.area.specs.Area.{over}
 use Rattle.encode.specs.declared.Kind.{Kind}
 use Rattle.emit.specs.Parts.{held_inner, held_runs, held_dictionary}
 use Rattle.format.specs.declared.Encoding.{Encoding}
 use Rattle.format.specs.declared.Encoding.TheVariants.{Plain, Nullable, RunLength, RunLengthNullable, Dictionary}
 use Rattle.format.specs.declared.Column.{Column}
-use Rattle.format.specs.declared.Column.TheVariants.{Of, Unknown}
 use Rattle.format.specs.Blocks.{column_of}
 use Rattle.needs.specs.declared.Counted.{Counted}
 use Rattle.needs.specs.Needs.{record_wrong, disagree}
@@ -35,14 +35,19 @@ pub record Finish : Type 0 where
 abbrev pub finish_of : ℕ → ℕ → Builder → List ℕ → Finish
 finish_of e len r out = record { answer = record { number = e; len = len; builder = r }; out = out }
 
+-- what a function answers that gives the bytes written or a refusal
+abbrev pub finished_by : Builder → Result ℕ Refusal → Finished
+finished_by r (Ok len) = record { number = 0; len = len; builder = r }
+finished_by r (Err e) = record { number = refusal_number e; len = 0; builder = r }
+
 unfoldable pub finished_with : Builder → List ℕ → List ℕ → Finish
 finished_with r block out = cond (ltb (length out) (length block)) (finish_of ROOM 0 r out) (finish_of 0 (length block) r (over out 0 block))
 
-unfoldable pub finished_in : Column → Builder → Lent → List ℕ → Finish
-finished_in Unknown r a out = finish_of DISAGREE 0 r out
-finished_in (Of k e) r a out =
-    cond (disagree k e r.counted (room_of a)) (finish_of DISAGREE 0 r out)
-    (finished_with r (held_block k e r.counted a) out)
+unfoldable pub finished_in : Option Column → Builder → Lent → List ℕ → Finish
+finished_in None r a out = finish_of DISAGREE 0 r out
+finished_in (Some c) r a out =
+    cond (disagree c.kind c.encoding r.counted (room_of a)) (finish_of DISAGREE 0 r out)
+    (finished_with r (held_block c.kind c.encoding r.counted a) out)
 
 unfoldable pub finished : Builder → Lent → List ℕ → Finish
 finished r a out = finished_in (column_of r.kind r.encoding r.width) r a out
@@ -51,9 +56,13 @@ finished r a out = finished_in (column_of r.kind r.encoding r.width) r a out
 abbrev pub estimated_as : ℕ → ℕ → Builder → Estimated
 estimated_as e n r = record { number = e; size = n; builder = r }
 
-unfoldable pub estimated_in : Column → Builder → Estimated
-estimated_in Unknown r = estimated_as DISAGREE 0 r
-estimated_in (Of k e) r = cond (record_wrong k e r.counted) (estimated_as DISAGREE 0 r) (estimated_as 0 (size_by k e r.counted) r)
+abbrev pub estimated_by : Builder → Result ℕ Refusal → Estimated
+estimated_by r (Ok n) = estimated_as 0 n r
+estimated_by r (Err e) = estimated_as (refusal_number e) 0 r
+
+unfoldable pub estimated_in : Option Column → Builder → Estimated
+estimated_in None r = estimated_as DISAGREE 0 r
+estimated_in (Some c) r = cond (record_wrong c.kind c.encoding r.counted) (estimated_as DISAGREE 0 r) (estimated_as 0 (size_by c.kind c.encoding r.counted) r)
 
 unfoldable pub estimated : Builder → Estimated
 estimated r = estimated_in (column_of r.kind r.encoding r.width) r
@@ -62,11 +71,15 @@ estimated r = estimated_in (column_of r.kind r.encoding r.width) r
 abbrev pub asked_as : ℕ → Bool → Builder → Asked
 asked_as e full r = record { number = e; full = full; builder = r }
 
-unfoldable pub asked_in : Column → Builder → Bool → ℕ → Asked
-asked_in Unknown r present len = asked_as DISAGREE false r
-asked_in (Of k e) r present len =
-    cond (record_wrong k e r.counted) (asked_as DISAGREE false r)
-    (asked_as 0 (full_by k e r.counted r.target r.keytarget present len) r)
+abbrev pub asked_by : Builder → Result Bool Refusal → Asked
+asked_by r (Ok full) = asked_as 0 full r
+asked_by r (Err e) = asked_as (refusal_number e) false r
+
+unfoldable pub asked_in : Option Column → Builder → Bool → ℕ → Asked
+asked_in None r present len = asked_as DISAGREE false r
+asked_in (Some c) r present len =
+    cond (record_wrong c.kind c.encoding r.counted) (asked_as DISAGREE false r)
+    (asked_as 0 (full_by c.kind c.encoding r.counted r.target r.keytarget present len) r)
 
 -- of the next row whether it is present, and the length of its bytes
 unfoldable pub asked : Builder → Bool → ℕ → Asked

@@ -4,7 +4,6 @@ ghost use Rattle.append.specs.Appending.{lent};
 ghost use Rattle.builder.specs.Building.{appended, appended_times};
 
 use crate::{Appended, Builder};
-use format::Column;
 
 impl Builder {
     // Appends one row: whether it is present, its integer for a fixed kind, its bytes for char, blob and string.
@@ -81,27 +80,36 @@ impl Builder {
             ≡ (appended_times self (lent items.old ends.old flags.old counts.old keys.old lens.old)
             times present value item.now).areas.lens }
     {
-        let column = format::column_of(self.kind, self.encoding, self.width);
-        let Column::Of { kind, encoding } = column else {
+        let Some(column) = format::column_of(self.kind, self.encoding, self.width) else {
             return Appended {
                 number: limits::refusal::DISAGREE,
                 builder: self,
             };
         };
         let c = self.counted;
-        let next = append_block::to_block(
-            c, kind, encoding, items, ends, flags, counts, keys, lens, present, value, item, times,
-        );
-        if next.number != 0 {
-            return Appended {
-                number: next.number,
+        match append_block::to_block(
+            c,
+            column.kind,
+            column.encoding,
+            items,
+            ends,
+            flags,
+            counts,
+            keys,
+            lens,
+            present,
+            value,
+            item,
+            times,
+        ) {
+            Ok(counted) => Appended {
+                number: 0,
+                builder: self.counting(counted),
+            },
+            Err(refusal) => Appended {
+                number: u8::from(refusal),
                 builder: self,
-            };
-        }
-        let counted = next.counted;
-        Appended {
-            number: 0,
-            builder: self.counting(counted),
+            },
         }
     }
 }

@@ -5,12 +5,13 @@ ghost use Rattle.limits.specs.Limits.{MOST_ITEMS};
 ghost use Rattle.emit.specs.Parts.{held_counts};
 ghost use Rattle.needs.specs.Needs.{coded};
 ghost use Rattle.append.specs.Appending.{lent};
-ghost use Rattle.builder.specs.Finishing.{held_block, finished};
+ghost use Rattle.builder.specs.Finishing.{held_block, finished, finished_by};
 ghost use Rattle.builder.specs.Asking.{with_counts, Ready};
 
 use crate::{Builder, Finished};
 use encode::Kind;
-use format::{Column, Encoding};
+use format::Encoding;
+use limits::refusal::Refusal;
 use needs::{Counted, Room};
 
 // The numbers with another byte length of the counts.
@@ -75,19 +76,60 @@ fn write_block(
     }
 }
 
-// A refused finish: no byte is written, and the builder goes back as it was given.
-fn refused(number: u8, builder: Builder) -> Finished
-    ensures { result ≡ record { number = number; len = 0; builder = builder } }
-{
-    Finished {
-        number,
-        len: 0,
-        builder,
-    }
-}
-
 impl Builder {
-    // Writes the block that the areas hold into the room.
+    // Writes the block that the areas hold into the room: its length. A refusal writes no byte.
+    fn write(
+        self,
+        items: &[u8],
+        ends: &[u32],
+        flags: &[u8],
+        counts: &[u32],
+        keys: &[i32],
+        lens: &[u8],
+        out: &mut [u8],
+    ) -> Result<usize, Refusal>
+        ensures value { finished_by self result ≡ (finished self (lent items.now ends.now flags.now counts.now keys.now lens.now)
+            out.old).answer }
+        ensures out_after { out.new
+            ≡ (finished self (lent items.now ends.now flags.now counts.now keys.now lens.now)
+            out.old).out }
+    {
+        let Some(column) = format::column_of(self.kind, self.encoding, self.width) else {
+            return Err(Refusal::Disagree);
+        };
+        let c = self.counted;
+        let room = Room {
+            items: items.len(),
+            ends: ends.len(),
+            flags: flags.len(),
+            counts: counts.len(),
+            keys: keys.len(),
+            lens: lens.len(),
+        };
+        if needs::disagrees(c, column.kind, column.encoding, room) {
+            return Err(Refusal::Disagree);
+        }
+        let size = held_counts(c, column.encoding, counts);
+        let len = needs::block_bytes(with_counts(c, size), column.kind, column.encoding);
+        if out.len() < len {
+            return Err(Refusal::Room);
+        }
+        write_block(
+            c,
+            column.kind,
+            column.encoding,
+            size,
+            items,
+            ends,
+            flags,
+            counts,
+            keys,
+            out,
+        );
+        Ok(len)
+    }
+
+    // Writes the block that the areas hold into the room. The builder goes back as it was given.
     pub fn finish(
         self,
         items: &[u8],
@@ -104,34 +146,17 @@ impl Builder {
             ≡ (finished self (lent items.now ends.now flags.now counts.now keys.now lens.now)
             out.old).out }
     {
-        let column = format::column_of(self.kind, self.encoding, self.width);
-        let Column::Of { kind, encoding } = column else {
-            return refused(limits::refusal::DISAGREE, self);
-        };
-        let c = self.counted;
-        let room = Room {
-            items: items.len(),
-            ends: ends.len(),
-            flags: flags.len(),
-            counts: counts.len(),
-            keys: keys.len(),
-            lens: lens.len(),
-        };
-        if needs::disagrees(c, kind, encoding, room) {
-            return refused(limits::refusal::DISAGREE, self);
-        }
-        let size = held_counts(c, encoding, counts);
-        let len = needs::block_bytes(with_counts(c, size), kind, encoding);
-        if out.len() < len {
-            return refused(limits::refusal::ROOM, self);
-        }
-        write_block(
-            c, kind, encoding, size, items, ends, flags, counts, keys, out,
-        );
-        Finished {
-            number: 0,
-            len,
-            builder: self,
+        match self.write(items, ends, flags, counts, keys, lens, out) {
+            Ok(len) => Finished {
+                number: 0,
+                len,
+                builder: self,
+            },
+            Err(refusal) => Finished {
+                number: u8::from(refusal),
+                len: 0,
+                builder: self,
+            },
         }
     }
 }

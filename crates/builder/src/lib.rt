@@ -6,9 +6,10 @@ mod finishing;
 mod sizing;
 
 ghost use Rattle.std.specs.Prelude.{◌≡◌};
+ghost use Rattle.limits.specs.Refusals.{by_number};
 ghost use Rattle.builder.specs.Building.{empty, created, counting};
 
-use format::Column;
+use limits::refusal::Refusal;
 use needs::Counted;
 
 // A builder: what creation was given, and what was appended so far. Any numbers can stand here.
@@ -23,14 +24,8 @@ pub struct Builder {
     pub counted: Counted,
 }
 
-// What creation answers: a refused column has no builder.
-#[derive(Clone, Copy)]
-pub enum Created {
-    New(Builder),
-    Refused(u8),
-}
-
-// What an append answers: 0 and the next builder, or a refusal with the builder as it was.
+// What an append answers: 0 and the next builder, or a refusal with the builder as it was. The records of the answers keep
+// their numbers: they are the C interface.
 #[repr(C)]
 #[derive(Clone, Copy)]
 pub struct Appended {
@@ -102,9 +97,9 @@ impl Builder {
     }
 }
 
-// A builder of a column, with nothing appended. Its target is that of a dictionary's keys too.
-pub fn create(kind: usize, encoding: usize, width: usize, target: usize) -> Created
-    ensures { result ≡ created kind encoding width target target }
+// A builder of a column, with nothing appended; a refused column has none. Its target is that of a dictionary's keys too.
+pub fn create(kind: usize, encoding: usize, width: usize, target: usize) -> Result<Builder, Refusal>
+    ensures { by_number result ≡ created kind encoding width target target }
 {
     create_with_key_target(kind, encoding, width, target, target)
 }
@@ -116,16 +111,11 @@ pub fn create_with_key_target(
     width: usize,
     target: usize,
     keytarget: usize,
-) -> Created
-    ensures { result ≡ created kind encoding width target keytarget }
+) -> Result<Builder, Refusal>
+    ensures { by_number result ≡ created kind encoding width target keytarget }
 {
-    let column = format::column_of(kind, encoding, width);
-    let Column::Of {
-        kind: _,
-        encoding: _,
-    } = column
-    else {
-        return Created::Refused(limits::refusal::COLUMN);
-    };
-    Created::New(Builder::new(kind, encoding, width, target, keytarget))
+    match format::column_of(kind, encoding, width) {
+        Some(_) => Ok(Builder::new(kind, encoding, width, target, keytarget)),
+        None => Err(Refusal::Column),
+    }
 }

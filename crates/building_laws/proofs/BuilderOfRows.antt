@@ -1,4 +1,5 @@
 -- A builder and its lent areas that stand as a list of appended rows left them: at creation, and after each append. Assumes nothing.
+use Rattle.std.specs.Prelude.{Some}
 use Prim.Native.Nat.{ℕ}
 use mathlib.Core.Bool.{true, false, cond, not}
 use mathlib.Core.List.{List, [], ◌∷◌, ◌++◌}
@@ -13,8 +14,7 @@ use Rattle.rle.specs.RunLength.{runs_of, counts_of}
 use Rattle.dict.specs.Dictionary.{entries_after, entries_of}
 use Rattle.format.specs.declared.Encoding.{Encoding}
 use Rattle.format.specs.declared.Encoding.TheVariants.{Plain, Nullable, RunLength, RunLengthNullable, Dictionary}
-use Rattle.format.specs.declared.Column.TheVariants.{Of}
-use Rattle.format.specs.Blocks.{column_of}
+use Rattle.format.specs.Blocks.{column_of, column}
 use Rattle.format.specs.Sizes.{run_rows, keys_of, stored_entries, within_limits}
 use Rattle.format.proofs.Within.{none_within, within-told}
 use Rattle.builder.specs.declared.Builder.{Builder}
@@ -31,7 +31,7 @@ use Rattle.building_laws.proofs.AreasOfRows.{EndsHeld, LensHeld, Holds, written_
 use Rattle.building_laws.proofs.StepOfRow.{step-told}
 
 pub record Stands (k : Kind) (e : Encoding) (target key : ℕ) (xs : List Row) (r : Builder) (a : Lent) : Type 0 where
-  pub column : column_of r.kind r.encoding r.width ≡ Of k e
+  pub column : column_of r.kind r.encoding r.width ≡ Some (column k e)
   pub aim : r.target ≡ target
   pub key_aim : r.keytarget ≡ key
   pub recorded : Recorded k e xs r.counted
@@ -95,7 +95,7 @@ module _ (k : Kind) (e : Encoding) where
     keys_fit = λ u. rw (no-runs e) tt;
   }
 
-  pub stands-first : (kind encoding width target key : ℕ) → column_of kind encoding width ≡ Of k e → (a : Lent) → Stands k e target key [] (empty kind encoding width target key) a
+  pub stands-first : (kind encoding width target key : ℕ) → column_of kind encoding width ≡ Some (column k e) → (a : Lent) → Stands k e target key [] (empty kind encoding width target key) a
   stands-first kind encoding width target key c a = record { column = c; aim = refl; key_aim = refl; recorded = none-recorded; holds = none-holds a; within = none_within k e }
 
 -- ---- one append

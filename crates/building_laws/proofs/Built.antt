@@ -15,11 +15,10 @@ use Rattle.encode.specs.declared.Kind.{Kind}
 use Rattle.plain.specs.Rows.{Row, fits}
 use Rattle.format.specs.declared.Encoding.{Encoding}
 use Rattle.format.specs.declared.Column.{Column}
-use Rattle.format.specs.declared.Column.TheVariants.{Of}
-use Rattle.format.specs.Blocks.{column_of, block_of}
+use Rattle.format.specs.Blocks.{column_of, block_of, column}
 use Rattle.format.specs.Sizes.{estimate_of, should_finish, within_limits, accepted}
 use Rattle.builder.specs.declared.Builder.{Builder}
-use Rattle.builder.specs.declared.Created.TheVariants.{New}
+use Rattle.std.specs.Prelude.{Ok, Option, Some}
 use Rattle.needs.specs.declared.Counted.{Counted}
 use Rattle.step.specs.Counting.{next_of}
 use Rattle.append.specs.Appending.{Lent, added_to}
@@ -159,17 +158,17 @@ finish-due r block out = rw zero-add
 
 -- ---- from the creation on: rows appended one after the other, with areas that are long enough for all of them
 -- a pair of a kind and an encoding is given a builder
-pub creation : (kind encoding width target key : ℕ) (k : Kind) (e : Encoding) → column_of kind encoding width ≡ Of k e
-    → created kind encoding width target key ≡ New (empty kind encoding width target key)
+pub creation : (kind encoding width target key : ℕ) (k : Kind) (e : Encoding) → column_of kind encoding width ≡ Some (column k e)
+    → created kind encoding width target key ≡ Ok (empty kind encoding width target key)
 unfolding created created_in
 creation kind encoding width target key k e c = rw c
 
-pub created-told : (c : Column) (s r : Builder) (k : Kind) (e : Encoding) → c ≡ Of k e → created_in c s ≡ New r → s ≡ r
+pub created-told : (c : Option Column) (s r : Builder) (k : Kind) (e : Encoding) → c ≡ Some (column k e) → created_in c s ≡ Ok r → s ≡ r
 unfolding created_in
-created-told c s r k e p q = let z : New s ≡ New r = rw p at q in cc
+created-told c s r k e p q = let z : Ok s ≡ Ok r = rw p at q in cc
 
-module _ (kind encoding width target key : ℕ) (k : Kind) (e : Encoding) (column : column_of kind encoding width ≡ Of k e)
-    (r : Builder) (new : created kind encoding width target key ≡ New r) (gs : List Given) (a : Lent) (room : Enough k e (rows_in k gs) a) where
+module _ (kind encoding width target key : ℕ) (k : Kind) (e : Encoding) (column : column_of kind encoding width ≡ Some (column k e))
+    (r : Builder) (new : created kind encoding width target key ≡ Ok r) (gs : List Given) (a : Lent) (room : Enough k e (rows_in k gs) a) where
   first : empty kind encoding width target key ≡ r
   unfolding created
   first = created-told (column_of kind encoding width) (empty kind encoding width target key) r k e column new

@@ -22,7 +22,7 @@ use Rattle.plain.specs.Plain.{joined, places, item_of, ends_from, fixed_at}
 use Rattle.plain.proofs.Each.{char-short}
 use Rattle.nullable.specs.Nullable.{presence}
 use Rattle.dict.specs.Dictionary.{index_of}
-use Rattle.lookup.specs.declared.Looked.TheVariants.{Entry}
+use Rattle.std.specs.Prelude.{Some}
 use Rattle.lookup.specs.Held.{Held, item_start, held_row, field_wrong, look_from, look_up}
 use Rattle.building_laws.proofs.Lists.{each_first, each-second, length-snoc, joined-append, length-joined-snoc}
 use Rattle.building_laws.proofs.Same.{never}
@@ -195,7 +195,7 @@ item_back (Blob text) xs x ys h g s =
 -- ---- the lookup
 module _ (k : Kind) (h : Held) (row : Row) where
   look-from : (xs ys : List Row) → Stored k (xs ++ ys) h → Each (λ x. presence x ≡ 1) ys
-      → look_from k (length (xs ++ ys)) (length (joined (item_of k) (xs ++ ys))) h row (places (length ys) (length xs)) ≡ Entry (length xs + index_of row ys)
+      → look_from k (length (xs ++ ys)) (length (joined (item_of k) (xs ++ ys))) h row (places (length ys) (length xs)) ≡ Some (length xs + index_of row ys)
   unfolding look_from places index_of
   look-from xs [] g p = rw (append-nil, add-zero)
   look-from xs (y ∷ ys) g p =
@@ -208,12 +208,12 @@ module _ (k : Kind) (h : Held) (row : Row) where
       s = xs ++ (y ∷ ys)
 
       go : (t : Bool)
-          → look_from k (length s) (length (joined (item_of k) s)) h row (places (length ys) (suc (length xs))) ≡ Entry (suc (length xs) + index_of row ys)
-          → cond t (Entry (length xs)) (look_from k (length s) (length (joined (item_of k) s)) h row (places (length ys) (suc (length xs))))
-          ≡ Entry (length xs + cond t 0 (suc (index_of row ys)))
+          → look_from k (length s) (length (joined (item_of k) s)) h row (places (length ys) (suc (length xs))) ≡ Some (suc (length xs) + index_of row ys)
+          → cond t (Some (length xs)) (look_from k (length s) (length (joined (item_of k) s)) h row (places (length ys) (suc (length xs))))
+          ≡ Some (length xs + cond t 0 (suc (index_of row ys)))
       go true ih = rw add-zero
-      go false ih = let m : suc (length xs) + index_of row ys ≡ length xs + suc (index_of row ys) = omega arith in ih ∙ ap Entry m
+      go false ih = let m : suc (length xs) + index_of row ys ≡ length xs + suc (index_of row ys) = omega arith in ih ∙ ap Some m
 
-  pub look_up_lem : (s : List Row) → Stored k s h → Each (λ x. presence x ≡ 1) s → look_up k (length s) (length (joined (item_of k) s)) h row ≡ Entry (index_of row s)
+  pub look_up_lem : (s : List Row) → Stored k s h → Each (λ x. presence x ≡ 1) s → look_up k (length s) (length (joined (item_of k) s)) h row ≡ Some (index_of row s)
   unfolding look_up
   look_up_lem s g p = rw zero-add at (look-from [] s g p)

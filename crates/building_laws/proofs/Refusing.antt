@@ -1,5 +1,6 @@
 -- For every record and all memory: a refused append, of one row or of n equal ones, or finish leaves what it was given as it was; finish, estimate and should_finish hand the record back
 -- as it was, refused or not. Assumes nothing.
+use Rattle.std.specs.Prelude.{Option, Some, None}
 use Prim.Native.Nat.{ℕ}
 use mathlib.Core.Bool.{Bool, true, false, cond}
 use mathlib.Core.List.{List}
@@ -10,7 +11,6 @@ use lib.ListN.{length}
 use Rattle.limits.specs.Refusals.{ROOM, DISAGREE}
 use Rattle.plain.specs.Rows.{row_of}
 use Rattle.format.specs.declared.Column.{Column}
-use Rattle.format.specs.declared.Column.TheVariants.{Of, Unknown}
 use Rattle.format.specs.Blocks.{column_of}
 use Rattle.builder.specs.declared.Builder.{Builder}
 use Rattle.needs.specs.Needs.{disagree, record_wrong}
@@ -24,11 +24,11 @@ use Rattle.builder.specs.Finishing.{estimated_as, estimated_in, estimated, asked
 
 -- ---- append
 in-keeps :
-    (r : Builder) (a : Lent) (c : Column) (present : Bool) (v : ℤ) (bs : List ℕ) → ((appended_in c r a present v bs).answer.number ≡ 0 → ⊥)
+    (r : Builder) (a : Lent) (c : Option Column) (present : Bool) (v : ℤ) (bs : List ℕ) → ((appended_in c r a present v bs).answer.number ≡ 0 → ⊥)
     → ((appended_in c r a present v bs).answer.builder ≡ r) × ((appended_in c r a present v bs).areas ≡ a)
 unfolding appended_in
-in-keeps r a Unknown present v bs h = (refl, refl)
-in-keeps r a (Of k e) present v bs h = let g = added-keeps r.counted a k e (row_of k present v bs) h in (ap (counting r) g.0, g.1)
+in-keeps r a None present v bs h = (refl, refl)
+in-keeps r a (Some c) present v bs h = let g = added-keeps r.counted a c.kind c.encoding (row_of c.kind present v bs) h in (ap (counting r) g.0, g.1)
 
 pub refused-append :
     (r : Builder) (a : Lent) (present : Bool) (v : ℤ) (bs : List ℕ) → ((appended r a present v bs).answer.number ≡ 0 → ⊥)
@@ -38,12 +38,12 @@ refused-append r a present v bs = in-keeps r a (column_of r.kind r.encoding r.wi
 
 -- of n equal rows
 times-keep :
-    (r : Builder) (a : Lent) (n : ℕ) (c : Column) (present : Bool) (v : ℤ) (bs : List ℕ) → ((appended_times_in c r a n present v bs).answer.number ≡ 0 → ⊥)
+    (r : Builder) (a : Lent) (n : ℕ) (c : Option Column) (present : Bool) (v : ℤ) (bs : List ℕ) → ((appended_times_in c r a n present v bs).answer.number ≡ 0 → ⊥)
     → ((appended_times_in c r a n present v bs).answer.builder ≡ r) × ((appended_times_in c r a n present v bs).areas ≡ a)
 unfolding appended_times_in
-times-keep r a n Unknown present v bs h = (refl, refl)
-times-keep r a n (Of k e) present v bs h =
-    let g = copies-refused-keep k e r.counted a n (row_of k present v bs) h in
+times-keep r a n None present v bs h = (refl, refl)
+times-keep r a n (Some c) present v bs h =
+    let g = copies-refused-keep c.kind c.encoding r.counted a n (row_of c.kind present v bs) h in
     (ap (counting r) g.0, g.1)
 
 pub refused-append-times :
@@ -69,10 +69,10 @@ module _ (r : Builder) (out : List ℕ) where
   unfolding finished_with
   with-leaves block = one_of (ltb (length out) (length block)) _ _ (nothing ROOM) (λ h. absurd (h refl), refl)
 
-  in-leaves : (c : Column) (a : Lent) → Leaves (finished_in c r a out)
+  in-leaves : (c : Option Column) (a : Lent) → Leaves (finished_in c r a out)
   unfolding finished_in
-  in-leaves Unknown a = nothing DISAGREE
-  in-leaves (Of k e) a = one_of (disagree k e r.counted (room_of a)) _ _ (nothing DISAGREE) (with-leaves (held_block k e r.counted a))
+  in-leaves None a = nothing DISAGREE
+  in-leaves (Some c) a = one_of (disagree c.kind c.encoding r.counted (room_of a)) _ _ (nothing DISAGREE) (with-leaves (held_block c.kind c.encoding r.counted a))
 
   leaves : (a : Lent) → Leaves (finished r a out)
   unfolding finished
@@ -86,12 +86,12 @@ module _ (r : Builder) (out : List ℕ) where
 
 -- ---- estimate and should_finish
 module _ (r : Builder) where
-  estimate-by : (c : Column) → (estimated_in c r).builder ≡ r
+  estimate-by : (c : Option Column) → (estimated_in c r).builder ≡ r
   unfolding estimated_in
-  estimate-by Unknown = refl
-  estimate-by (Of k e) = go (record_wrong k e r.counted)
+  estimate-by None = refl
+  estimate-by (Some c) = go (record_wrong c.kind c.encoding r.counted)
     where
-      go : (b : Bool) → (cond b (estimated_as DISAGREE 0 r) (estimated_as 0 (size_by k e r.counted) r)).builder ≡ r
+      go : (b : Bool) → (cond b (estimated_as DISAGREE 0 r) (estimated_as 0 (size_by c.kind c.encoding r.counted) r)).builder ≡ r
       go true = refl
       go false = refl
 
@@ -100,12 +100,12 @@ module _ (r : Builder) where
   estimate-hands-back = estimate-by (column_of r.kind r.encoding r.width)
 
   module _ (present : Bool) (len : ℕ) where
-    asked_by : (c : Column) → (asked_in c r present len).builder ≡ r
+    asked_by : (c : Option Column) → (asked_in c r present len).builder ≡ r
     unfolding asked_in
-    asked_by Unknown = refl
-    asked_by (Of k e) = go (record_wrong k e r.counted)
+    asked_by None = refl
+    asked_by (Some c) = go (record_wrong c.kind c.encoding r.counted)
       where
-        go : (b : Bool) → (cond b (asked_as DISAGREE false r) (asked_as 0 (full_by k e r.counted r.target r.keytarget present len) r)).builder ≡ r
+        go : (b : Bool) → (cond b (asked_as DISAGREE false r) (asked_as 0 (full_by c.kind c.encoding r.counted r.target r.keytarget present len) r)).builder ≡ r
         go true = refl
         go false = refl
 

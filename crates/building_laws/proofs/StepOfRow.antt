@@ -19,12 +19,11 @@ use Rattle.dict.specs.Dictionary.{index_of, entries_of, null_key, entry_key, key
 use Rattle.format.specs.declared.Encoding.{Encoding}
 use Rattle.format.specs.declared.Encoding.TheVariants.{Plain, Nullable, RunLength, RunLengthNullable, Dictionary}
 use Rattle.format.specs.Sizes.{run_rows, keys_of, stored_entries}
-use Rattle.lookup.specs.declared.Looked.TheVariants.{Entry}
+use Rattle.std.specs.Prelude.{Some}
 use Rattle.lookup.specs.Held.{Held, field_wrong, look_up}
 use Rattle.needs.specs.declared.Counted.{Counted}
-use Rattle.step.specs.declared.Step.TheVariants.{Row as Adds}
 use Rattle.needs.specs.Needs.{keyed}
-use Rattle.step.specs.Steps.{run_open, row_before, joins_run, run_step, joins_key, entry_step, key_step, step_of}
+use Rattle.step.specs.Steps.{adds, run_open, row_before, joins_run, run_step, joins_key, entry_step, key_step, step_of}
 use Rattle.append.specs.Appending.{Lent, held_in}
 use Rattle.building_laws.specs.Built.{stored_rows, stored_runs}
 use Rattle.building_laws.proofs.Lists.{length-snoc}
@@ -59,19 +58,19 @@ module _ (k : Kind) (h : Held) (r : Counted) where
 
   module _ (x : Row) where
     step-with : (rs : List Run) → (ltb 0 r.runs && field_wrong k r.runs r.bytes h (r.runs - 1)) ≡ false → joins_run k r h x ≡ joins_last rs x
-        → run_step k r h x ≡ Adds (not (joins_last rs x)) (joins_last rs x) (pos 0)
+        → run_step k r h x ≡ adds (not (joins_last rs x)) (joins_last rs x) (pos 0)
     unfolding run_step
     step-with rs p q = rw (p, q)
 
     -- there are none
-    step-first : r.runs ≡ 0 → run_step k r h x ≡ Adds (not (joins_last [] x)) (joins_last [] x) (pos 0)
+    step-first : r.runs ≡ 0 → run_step k r h x ≡ adds (not (joins_last [] x)) (joins_last [] x) (pos 0)
     unfolding joins_run run_open joins_last
     step-first n = step-with [] (rw n) (rw n)
 
     -- there is a last one
     step-later : (init : List Run) (last : Run) → Stored k (map (λ y. y.row) (init ++ (last ∷ []))) h → r.runs ≡ length (init ++ (last ∷ []))
         → r.last ≡ last.count → r.null ≡ 1 - presence last.row → r.bytes ≡ length (joined (item_of k) (map (λ y. y.row) (init ++ (last ∷ []))))
-        → run_step k r h x ≡ Adds (not (joins_last (init ++ (last ∷ [])) x)) (joins_last (init ++ (last ∷ [])) x) (pos 0)
+        → run_step k r h x ≡ adds (not (joins_last (init ++ (last ∷ [])) x)) (joins_last (init ++ (last ∷ [])) x) (pos 0)
     unfolding joins_run run_open joins_last
     step-later init last g n c z b =
         let f : Run → Row = λ y. y.row in
@@ -93,10 +92,10 @@ module _ (k : Kind) (h : Held) (r : Counted) where
 
   pub run-told : (rs : List Run) (x : Row) → Stored k (map (λ y. y.row) rs) h → r.runs ≡ length rs → r.last ≡ (last_run rs).count
       → r.null ≡ 1 - presence (last_run rs).row → r.bytes ≡ length (joined (item_of k) (map (λ y. y.row) rs))
-      → run_step k r h x ≡ Adds (not (joins_last rs x)) (joins_last rs x) (pos 0)
+      → run_step k r h x ≡ adds (not (joins_last rs x)) (joins_last rs x) (pos 0)
   run-told rs x g n c z b = go (ended rs)
     where
-      go : (rs ≡ []) ⊎ Ended rs → run_step k r h x ≡ Adds (not (joins_last rs x)) (joins_last rs x) (pos 0)
+      go : (rs ≡ []) ⊎ Ended rs → run_step k r h x ≡ adds (not (joins_last rs x)) (joins_last rs x) (pos 0)
       go (inl e) = rw e (step-first x (n ∙ ap length e))
       go (inr d) =
           let e = d.whole in
@@ -152,12 +151,12 @@ module _ (k : Kind) (rows : List Row) (r : Counted) (a : Lent) (x : Row) where
   stored-in : (e : Encoding) → Holds k e rows a → Stored k (stored_rows e rows) (held_in a)
   stored-in e g = record { items = g.items; ends = g.ends; lens = g.lens; fit = g.fit }
 
-  entry-told : Recorded k Dictionary rows r → Holds k Dictionary rows a → look_up k r.entries r.bytes (held_in a) x ≡ Entry (index_of x (entries_of rows))
+  entry-told : Recorded k Dictionary rows r → Holds k Dictionary rows a → look_up k r.entries r.bytes (held_in a) x ≡ Some (index_of x (entries_of rows))
   unfolding stored_rows stored_entries
   entry-told h g = rw (h.entries, h.bytes) (look_up_lem k (held_in a) x (entries_of rows) (stored-in Dictionary g) (entries-present rows))
 
 pub step-told : (k : Kind) (e : Encoding) (rows : List Row) (r : Counted) (a : Lent) (x : Row) → Recorded k e rows r → Holds k e rows a
-    → step_of k e r (held_in a) a.keys x ≡ Adds (item_by e rows x) (joins_by e rows x) (key_by e rows x)
+    → step_of k e r (held_in a) a.keys x ≡ adds (item_by e rows x) (joins_by e rows x) (key_by e rows x)
 unfolding step_of key_step entry_step item_by joins_by key_by keyed stored_rows stored_runs stored_entries run_rows is_new key_of int_in
 step-told k Plain rows r a x h g = refl
 step-told k Nullable rows r a x h g = refl

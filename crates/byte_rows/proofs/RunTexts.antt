@@ -4,14 +4,14 @@ use native.Mathlib.Nat.{zero-mul}
 use native.Mathlib.Omega.{arith}
 use mathlib.Core.Bool.{Bool}
 use mathlib.Core.List.{List}
-use mathlib.Core.Path.{◌≡◌, refl, sym, ap, subst, ◌∙◌}
+use mathlib.Core.Path.{◌≡◌, refl, sym, ap, ◌∙◌}
 use lib.ListN.{length, take, drop}
 use lib.Seq.{sets}
+use Rattle.std.specs.Prelude.{Some}
 use Rattle.area.specs.Area.{repeats, climbs}
 use Rattle.encode.specs.declared.Kind.{Kind}
 use Rattle.rle.specs.declared.Spot.{Spot}
-use Rattle.rle.specs.declared.Piece.TheVariants.{Rows}
-use Rattle.rle.specs.Pieces.{step_runs}
+use Rattle.rle.specs.Pieces.{run_piece, step_runs}
 use Rattle.source.specs.declared.Source.{Source}
 use Rattle.source.specs.Rows.{shown_by, text_of, text_by, size_by, piece_of, steps_of, sum_of, Writes}
 use Rattle.source.proofs.AtPlace.{sizes, part-size, text-shown}
@@ -24,7 +24,7 @@ module _ (s : Source) (marks items counts : List ℕ) (n : ℕ) (from : Spot) (e
   Written place left to at ends bytes = loops.TextsWritten (text_by s marks items) (size_by s marks items) s.coded s.runs counts n from ends₀ bytes₀ place left to at ends bytes
 
   module _ {place : Spot} {left to at : ℕ} {ends bytes : List ℕ} (w : Written place left to at ends bytes) (l : 0 < left)
-      {k : ℕ} {t : Spot} (b : piece_of s counts place left ≡ Rows k t) {slot : ℕ} (shows : 0 < k → slot ≡ shown_by s.marks marks place.run)
+      {k : ℕ} {t : Spot} (b : piece_of s counts place left ≡ Some (run_piece k t)) {slot : ℕ} (shows : 0 < k → slot ≡ shown_by s.marks marks place.run)
       {kind : Kind} (is : s.kind ≡ kind) (o len : ℕ) (h : o + len ≤ length items) (q : take len (drop o items) ≡ text_of kind s.items items slot) where
     same_text : 0 < k → take len (drop o items) ≡ text_by s marks items place.run
     same_text m = text-shown s marks items place.run (shows m) (q ∙ ap (λ (j : Kind). text_of j s.items items slot) (sym is))

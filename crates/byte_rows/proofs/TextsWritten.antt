@@ -7,13 +7,13 @@ use mathlib.Core.List.{List, ◌++◌, map}
 use mathlib.Core.Path.{◌≡◌, refl, ap, ◌∙◌}
 use lib.ListN.{length, replicate, length-map, length-append, length-replicate}
 use lib.Seq.{sets, length-sets}
+use Rattle.std.specs.Prelude.{Option, Some}
 use Rattle.area.specs.Area.{repeats, climbs}
 use Rattle.area.proofs.Laws.{sets-append}
 use Rattle.plain.specs.Plain.{joined, ends_from}
 use Rattle.rle.specs.declared.Spot.{Spot}
 use Rattle.rle.specs.declared.Piece.{Piece}
-use Rattle.rle.specs.declared.Piece.TheVariants.{Rows}
-use Rattle.rle.specs.Pieces.{piece_in, steps_in, step_runs}
+use Rattle.rle.specs.Pieces.{run_piece, piece_in, steps_in, step_runs}
 use Rattle.source.specs.Rows.{StartsBy, sum_of, Writes}
 use Rattle.source.proofs.Folds.{sum-append, sum_same, joined-append, joined_same, length-joined, ends-append, ends_same, length-ends}
 use Rattle.source.proofs.Progress.{Progress, progress_start, progress-all, progress-on, progress-place, progress-runs}
@@ -46,7 +46,7 @@ module _ {text : ℕ → List ℕ} {size : ℕ → ℕ} {coded : Bool} {runs : �
       × (bytes ≡ sets bytes₀ 0 (joined text (step_runs (steps_in coded runs counts n from))))
   texts-end h = let d = progress-all w.progress h in (rw d w.same_ends, rw d w.same_bytes)
 
-  module _ (l : 0 < left) {p : Piece} (e : p ≡ piece_in coded runs counts place left) {k : ℕ} {t : Spot} (b : p ≡ Rows k t) where
+  module _ (l : 0 < left) {p : Option Piece} (e : p ≡ piece_in coded runs counts place left) {k : ℕ} {t : Spot} (b : p ≡ Some (run_piece k t)) where
     pub texts-room : n ≤ length ends₀ → to + k ≤ length ends
     texts-room h = omega (arith, h, texts-ends, progress-place w.progress l e b w.here)
 

@@ -2,10 +2,12 @@
 ghost use Rattle.std.specs.Prelude.{◌≡◌, not, eqb};
 ghost use Rattle.append.specs.Appending.{lent};
 ghost use Rattle.builder.specs.Promises.{Appends};
+ghost use Rattle.limits.specs.Refusals.{by_number};
 ghost use Rattle.capi.specs.Answers.{no_builder, creation_of};
 ghost use Rattle.capi.specs.Promises.{Creates, Finishes, Estimates, Asks};
 
-use builder::{Appended, Asked, Builder, Created, Estimated, Finished};
+use builder::{Appended, Asked, Builder, Estimated, Finished};
+use limits::refusal::Refusal;
 
 // What creation answers: 0 and a builder, or a refusal and the record that every call refuses.
 #[repr(C)]
@@ -30,13 +32,13 @@ fn is_present(flag: u8) -> bool
 }
 
 // The answer of a creation as it crosses to C.
-fn creation_of(answer: Created) -> Creation
-    ensures { result ≡ creation_of answer }
+fn creation_of(answer: Result<Builder, Refusal>) -> Creation
+    ensures { result ≡ creation_of (by_number answer) }
 {
     match answer {
-        Created::New(builder) => Creation { number: 0, builder },
-        Created::Refused(number) => Creation {
-            number,
+        Ok(builder) => Creation { number: 0, builder },
+        Err(refusal) => Creation {
+            number: u8::from(refusal),
             builder: no_builder(),
         },
     }

@@ -1,47 +1,31 @@
 // Areas lent in part.
 
-// ---- the first n cells of an area, or all if there are fewer: to read
-
-pub fn bytes_of(s: &[u8], n: usize) -> &[u8] {
-    if s.len() <= n {
-        return s;
-    }
-    &s[..n]
+// How many cells of each area are lent.
+#[derive(Clone, Copy)]
+pub struct Lent {
+    pub items: usize,
+    pub ends: usize,
+    pub flags: usize,
+    pub counts: usize,
+    pub keys: usize,
+    pub lens: usize,
 }
 
-pub fn words_of(s: &[u32], n: usize) -> &[u32] {
-    if s.len() <= n {
-        return s;
-    }
-    &s[..n]
+// A builder's areas, to write.
+#[derive(Drop)]
+pub struct Areas<'a> {
+    pub items: &'a mut [u8],
+    pub ends: &'a mut [u32],
+    pub flags: &'a mut [u8],
+    pub counts: &'a mut [u32],
+    pub keys: &'a mut [i32],
+    pub lens: &'a mut [u8],
 }
 
-pub fn ints_of(s: &[i32], n: usize) -> &[i32] {
-    if s.len() <= n {
-        return s;
+// The first n cells of an area, or all if there are fewer: to write.
+pub fn part<T>(area: &mut [T], n: usize) -> &mut [T] {
+    if area.len() <= n {
+        return area;
     }
-    &s[..n]
-}
-
-// ---- to write
-
-pub fn lent_bytes(d: &mut [u8], n: usize) -> &mut [u8] {
-    if d.len() <= n {
-        return d;
-    }
-    &mut d[..n]
-}
-
-pub fn lent_words(d: &mut [u32], n: usize) -> &mut [u32] {
-    if d.len() <= n {
-        return d;
-    }
-    &mut d[..n]
-}
-
-pub fn lent_ints(d: &mut [i32], n: usize) -> &mut [i32] {
-    if d.len() <= n {
-        return d;
-    }
-    &mut d[..n]
+    &mut area[..n]
 }

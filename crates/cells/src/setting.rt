@@ -1,105 +1,105 @@
 // Cells set to numbers.
-use crate::Cells;
-use crate::summing::plus;
-use script::{number, past, say};
+ghost use Rattle.std.specs.Prelude.{◌≡◌, ◌%◌, ◌^◌};
 
-fn put_byte(d: &mut [u8], at: usize, v: u64) {
-    if at < d.len() {
-        d[at] = (v % 256) as u8;
+use crate::Areas;
+use script::{Input, Shown, past, say};
+
+// The area that a number names.
+#[derive(Clone, Copy)]
+pub enum Area {
+    Items,
+    Ends,
+    Flags,
+    Counts,
+    Keys,
+    Lens,
+    Room,
+}
+
+impl From<usize> for Area {
+    fn from(number: usize) -> Area {
+        match number {
+            0 => Area::Items,
+            1 => Area::Ends,
+            2 => Area::Flags,
+            3 => Area::Counts,
+            4 => Area::Keys,
+            5 => Area::Lens,
+            _ => Area::Room,
+        }
     }
 }
 
-fn put_word(d: &mut [u32], at: usize, v: u64) {
-    if at < d.len() {
-        d[at] = (v % 0x1_0000_0000) as u32;
+// A cell, which a number is put into by its lowest bits.
+trait Cell: Shown {
+    fn of(v: u64) -> Self;
+}
+
+impl Cell for u8 {
+    fn of(v: u64) -> u8
+        ensures { result ≡ v % 2 ^ 8 }
+    {
+        (v % 0x100) as u8
     }
 }
 
-// The key of so many bits.
-fn key_of(v: u64) -> i32 {
-    let bits = v % 0x1_0000_0000;
-    if bits < 0x8000_0000 {
-        bits as i32
-    } else {
-        !((0xffff_ffff - bits) as i32)
+impl Cell for u32 {
+    fn of(v: u64) -> u32
+        ensures { result ≡ v % 2 ^ 32 }
+    {
+        (v % 0x1_0000_0000) as u32
     }
 }
 
-fn put_key(d: &mut [i32], at: usize, v: u64) {
-    if at < d.len() {
-        d[at] = key_of(v);
+impl Cell for i32 {
+    fn of(v: u64) -> i32 {
+        u32::of(v).cast_signed()
     }
 }
 
-fn set_bytes(d: &mut [u8], cells: Cells) {
-    let mut v = cells.start;
-    let mut i = 0;
-    while i < cells.count {
-        put_byte(d, past(cells.place, i), v);
-        v = plus(v, cells.step);
-        i += 1;
+// Cells to set: the first place, how many, the first number and the step to the next.
+#[derive(Clone, Copy)]
+struct Cells {
+    place: usize,
+    count: usize,
+    start: u64,
+    step: u64,
+}
+
+impl Cells {
+    fn taken(input: &mut Input) -> Cells {
+        Cells {
+            place: input.number(),
+            count: input.number(),
+            start: input.number() as u64,
+            step: input.number() as u64,
+        }
+    }
+
+    // Sets those that are there.
+    fn put<T: Cell>(self, area: &mut [T]) {
+        let mut v = self.start;
+        for i in 0..self.count {
+            if let Some(cell) = area.get_mut(past(self.place, i)) {
+                *cell = T::of(v);
+            }
+            v = v.wrapping_add(self.step);
+        }
     }
 }
 
-fn set_words(d: &mut [u32], cells: Cells) {
-    let mut v = cells.start;
-    let mut i = 0;
-    while i < cells.count {
-        put_word(d, past(cells.place, i), v);
-        v = plus(v, cells.step);
-        i += 1;
-    }
-}
-
-fn set_keys(d: &mut [i32], cells: Cells) {
-    let mut v = cells.start;
-    let mut i = 0;
-    while i < cells.count {
-        put_key(d, past(cells.place, i), v);
-        v = plus(v, cells.step);
-        i += 1;
-    }
-}
-
-fn cells_at(s: &[u8], at: usize) -> Cells {
-    let area = number(s, at);
-    let place = number(s, area.next);
-    let count = number(s, place.next);
-    let start = number(s, count.next);
-    let step = number(s, start.next);
-    Cells {
-        area: area.value,
-        place: place.value,
-        count: count.value,
-        start: start.value as u64,
-        step: step.value as u64,
-        next: step.next,
-    }
-}
-
-// Sets the cells that the numbers at this place name; the place after them.
-pub fn set(
-    s: &[u8],
-    at: usize,
-    items: &mut [u8],
-    ends: &mut [u32],
-    flags: &mut [u8],
-    counts: &mut [u32],
-    keys: &mut [i32],
-    lens: &mut [u8],
-    room: &mut [u8],
-) -> usize {
+// Sets the cells that the input names.
+pub fn set(input: &mut Input, areas: &mut Areas, room: &mut [u8]) {
     say(b"cells");
-    let cells = cells_at(s, at);
-    let area = cells.area;
+    let area = Area::from(input.number());
+    let cells = Cells::taken(input);
     match area {
-        0 => set_bytes(items, cells),
-        1 => set_words(ends, cells),
-        2 => set_bytes(flags, cells),
-        3 => set_words(counts, cells),
-        4 => set_keys(keys, cells),
-        5 => set_bytes(lens, cells),
-        _ => set_bytes(room, cells),
+        Area::Items => cells.put(areas.items),
+        Area::Ends => cells.put(areas.ends),
+        Area::Flags => cells.put(areas.flags),
+        Area::Counts => cells.put(areas.counts),
+        Area::Keys => cells.put(areas.keys),
+        Area::Lens => cells.put(areas.lens),
+        Area::Room => cells.put(room),
     }
-    cells.next
 }

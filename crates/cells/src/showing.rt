@@ -1,63 +1,42 @@
-// The lent cells in hex.
-use crate::Lent;
-use crate::lending::{bytes_of, ints_of, words_of};
-use script::{past, say, show, show_bytes};
-
-// A cell as a number: of a key its bits.
-pub fn of_word(n: u32) -> u64 {
-    n as u64
-}
-
-pub fn of_key(n: i32) -> u64 {
-    encode::bits_of(n as i64) % 0x1_0000_0000
-}
+// Cells in hex, and their sums.
+use crate::{Areas, Lent};
+use script::{first, past, say, show_bytes, show_each, show_sums};
 
 // The cells that are shown of so many lent ones: two more.
-fn shown(n: usize) -> usize {
-    past(n, 2)
+fn shown<T>(area: &[T], lent: usize) -> &[T] {
+    first(area, past(lent, 2))
 }
 
-pub fn show_first(s: &[u8], lent: usize) {
-    show_bytes(bytes_of(s, shown(lent)));
+pub fn show_first(area: &[u8], lent: usize) {
+    show_bytes(shown(area, lent));
 }
 
-fn show_words(s: &[u32], lent: usize) {
-    let part = words_of(s, shown(lent));
-    let mut i = 0;
-    while i < part.len() {
-        show(of_word(part[i]));
-        i += 1;
+impl Areas<'_> {
+    // The lent cells, and two past them.
+    pub fn show(&self, lent: Lent) {
+        say(b"\n items ");
+        show_first(self.items, lent.items);
+        say(b"\n ends");
+        show_each(shown(self.ends, lent.ends));
+        say(b"\n flags ");
+        show_first(self.flags, lent.flags);
+        say(b"\n counts");
+        show_each(shown(self.counts, lent.counts));
+        say(b"\n keys");
+        show_each(shown(self.keys, lent.keys));
+        say(b"\n lens ");
+        show_first(self.lens, lent.lens);
     }
-}
 
-fn show_keys(s: &[i32], lent: usize) {
-    let part = ints_of(s, shown(lent));
-    let mut i = 0;
-    while i < part.len() {
-        show(of_key(part[i]));
-        i += 1;
+    // The sums over each area, to its end.
+    pub fn show_sums(&self, room: &[u8]) {
+        say(b"sums");
+        show_sums(self.items);
+        show_sums(self.ends);
+        show_sums(self.flags);
+        show_sums(self.counts);
+        show_sums(self.keys);
+        show_sums(self.lens);
+        show_sums(room);
     }
-}
-
-pub fn show_cells(
-    lent: Lent,
-    items: &[u8],
-    ends: &[u32],
-    flags: &[u8],
-    counts: &[u32],
-    keys: &[i32],
-    lens: &[u8],
-) {
-    say(b"\n items ");
-    show_first(items, lent.items);
-    say(b"\n ends");
-    show_words(ends, lent.ends);
-    say(b"\n flags ");
-    show_first(flags, lent.flags);
-    say(b"\n counts");
-    show_words(counts, lent.counts);
-    say(b"\n keys");
-    show_keys(keys, lent.keys);
-    say(b"\n lens ");
-    show_first(lens, lent.lens);
 }

@@ -1,14 +1,26 @@
 -- The loop that copies eight bytes at a time: a step is eight of those that copy one. Assumes nothing.
-use mathlib.Core.Path.{◌≡◌, sym, ap, ◌∙◌}
+use mathlib.Core.Path.{◌≡◌, refl, sym, ap, ◌∙◌}
 use mathlib.Core.List.{List, ◌++◌}
 use Prim.Native.Nat.{ℕ, ◌+◌, ◌-◌, ◌≤◌}
+use native.Mathlib.Nat.{add-zero}
 use native.Mathlib.Omega.{arith}
 use lib.ListN.{length, take, drop, length-drop}
 use lib.Seq.{sets, length-sets, length-take-le, drop-drop, take-add}
 use Rattle.encode.specs.Bytes.{in_eight}
 use Rattle.area.proofs.Laws.{sets-append}
-use Rattle.area.proofs.Loops.{Copying}
 use Rattle.plain.proofs.Items.{take-item}
+
+-- what is still to be copied, laid over what is there, is the answer
+pub record Copying (src : List ℕ) (from n : ℕ) (dst₀ : List ℕ) (at : ℕ) (dst : List ℕ) (i : ℕ) : Type 0 where
+  pub same : sets dst (at + i) (take (n - i) (drop (from + i) src)) ≡ sets dst₀ at (take n (drop from src))
+  pub hi : i ≤ n
+  pub room : at + n ≤ length dst
+  pub long : length dst ≡ length dst₀
+
+pub copying-start : (src : List ℕ) (from n : ℕ) (dst : List ℕ) (at : ℕ) → at + n ≤ length dst → Copying src from n dst at dst 0
+copying-start src from n dst at r =
+    let m : n - 0 ≡ n = omega arith in
+    record { same = rw (add-zero at, add-zero from, m); hi = omega arith; room = r; long = refl }
 
 module _ {src : List ℕ} {from n : ℕ} {dst₀ : List ℕ} {at : ℕ} {dst : List ℕ} {i : ℕ} (c : Copying src from n dst₀ at dst i) where
   pub copying-word :

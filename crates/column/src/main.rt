@@ -15,21 +15,13 @@ use std::str;
 fn argument(rt: &HostRuntime, i: usize, text: &mut [u8]) -> usize
     ensures { result ≤ length text.new }
 {
-    match rt.arg(i, text) {
-        Ok(len) => len,
-        Err(_) => 0,
-    }
+    rt.arg(i, text).unwrap_or(0)
 }
 
 // The file of a name, opened. std takes text alone: of other bytes no file is opened.
 fn opened(rt: &HostRuntime, name: &[u8]) -> Option<File> {
-    let Ok(path) = str::from_utf8(name) else {
-        return None;
-    };
-    match File::open(rt, path) {
-        Ok(open) => Some(open),
-        Err(_) => None,
-    }
+    let path = str::from_utf8(name).ok()?;
+    File::open(rt, path).ok()
 }
 
 // Lists the column of an open file that the second argument names. No bytes name no column.

@@ -8,36 +8,16 @@ use mathlib.Core.Path.{◌≡◌, refl, sym, ap, ◌∙◌}
 use lib.Dec.{ltb}
 use lib.ListN.{length, drop, get_or, drop_of_length-le}
 use lib.Seq.{drop-cons}
-use borrow.Author.Tests.{lt-ltb, le-ltb, le-leb, lt-leb, ltb-true, ltb-false, ne_eqb, eq-eqb}
-use Rattle.column_by.specs.declared.Named.{Named}
-use Rattle.column_by.specs.declared.Named.TheVariants.{Column, Nothing}
+use borrow.Author.Tests.{lt-ltb, le-ltb, ltb-true, ltb-false, ne_eqb, eq-eqb}
+use Rattle.std.specs.Prelude.{Option, Some, None}
 use Rattle.column_by.specs.Named.{is_digit, all_digits, value_of, within, column_named, with_digit}
 
 -- ---- one digit more
-pub below-digits : (n b : ℕ) → b < 48 → Nothing ≡ with_digit n b
-unfolding with_digit
-below-digits n b h = rw (lt-leb 48 b h)
-
-pub above-digits : (n b : ℕ) → 48 ≤ b → 57 < b → Nothing ≡ with_digit n b
-unfolding with_digit
-above-digits n b l h = rw (le-leb 48 b l, lt-leb b 57 h)
-
-module _ (n b : ℕ) (low : 48 ≤ b) (high : b ≤ 57) where
-  digit : {x : Named} → x ≡ within (10 * n + (b - 48)) → x ≡ with_digit n b
-  unfolding with_digit
-  digit q = rw (le-leb 48 b low, le-leb b 57 high) q
-
-  pub too_many : 2 ^ 64 ≤ 10 * n + (b - 48) → Nothing ≡ with_digit n b
-  too_many h = digit (rw (le-ltb (10 * n + (b - 48)) (2 ^ 64) h))
-
-  pub one_more : 10 * n + (b - 48) < 2 ^ 64 → Column (10 * n + (b - 48)) ≡ with_digit n b
-  one_more h = digit (rw (lt-ltb (10 * n + (b - 48)) (2 ^ 64) h))
-
-still-fits : (n b m : ℕ) → with_digit n b ≡ Column m → m < 2 ^ 64
+still-fits : (n b m : ℕ) → with_digit n b ≡ Some m → m < 2 ^ 64
 unfolding with_digit
 still-fits n b m p = go (is_digit b) (ltb (10 * n + (b - 48)) (2 ^ 64)) refl p
   where
-    go : (t f : Bool) → ltb (10 * n + (b - 48)) (2 ^ 64) ≡ f → cond t (cond f (Column (10 * n + (b - 48))) Nothing) Nothing ≡ Column m → m < 2 ^ 64
+    go : (t f : Bool) → ltb (10 * n + (b - 48)) (2 ^ 64) ≡ f → cond t (cond f (Some (10 * n + (b - 48))) None) None ≡ Some m → m < 2 ^ 64
     go true true e q =
         let z : 10 * n + (b - 48) ≡ m = cc in
         let l = ltb-true (10 * n + (b - 48)) (2 ^ 64) e in
@@ -46,8 +26,8 @@ still-fits n b m p = go (is_digit b) (ltb (10 * n + (b - 48)) (2 ^ 64)) refl p
     go false f e q = let z : ◌≡◌ {A = ℕ} 0 1 = cc in absurd (omega arith)
 
 -- ---- a number and all the digits behind it
-unfoldable pub number_from : ℕ → List ℕ → Named
-number_from n s = cond (all_digits s) (within (n * 10 ^ length s + value_of s)) Nothing
+unfoldable pub number_from : ℕ → List ℕ → Option ℕ
+number_from n s = cond (all_digits s) (within (n * 10 ^ length s + value_of s)) None
 
 scaled : (n d k v : ℕ) → n * 10 ^ suc k + (d * 10 ^ k + v) ≡ (10 * n + d) * 10 ^ k + v
 scaled n d k v =
@@ -60,40 +40,40 @@ module _ (n b : ℕ) (s : List ℕ) where
   more = 10 * n + (b - 48)
 
   -- the first digit goes to the number
-  taken_in : number_from n (b ∷ s) ≡ cond (is_digit b && all_digits s) (within (more * 10 ^ length s + value_of s)) Nothing
+  taken_in : number_from n (b ∷ s) ≡ cond (is_digit b && all_digits s) (within (more * 10 ^ length s + value_of s)) None
   unfolding number_from all_digits value_of more
-  taken_in = ap (λ (v : ℕ). cond (is_digit b && all_digits s) (within v) Nothing) (scaled n (b - 48) (length s) (value_of s))
+  taken_in = ap (λ (v : ℕ). cond (is_digit b && all_digits s) (within v) None) (scaled n (b - 48) (length s) (value_of s))
 
-  digit-taken : (m : ℕ) → with_digit n b ≡ Column m → number_from n (b ∷ s) ≡ number_from m s
+  digit-taken : (m : ℕ) → with_digit n b ≡ Some m → number_from n (b ∷ s) ≡ number_from m s
   unfolding with_digit number_from more
   digit-taken m p = taken_in ∙ go (is_digit b) (ltb more (2 ^ 64)) p
     where
-      go : (t f : Bool) → cond t (cond f (Column more) Nothing) Nothing ≡ Column m
-          → cond (t && all_digits s) (within (more * 10 ^ length s + value_of s)) Nothing ≡ number_from m s
+      go : (t f : Bool) → cond t (cond f (Some more) None) None ≡ Some m
+          → cond (t && all_digits s) (within (more * 10 ^ length s + value_of s)) None ≡ number_from m s
       go true true q = let e : more ≡ m = cc in rw e
       go true false q = let z : ◌≡◌ {A = ℕ} 0 1 = cc in absurd (omega arith)
       go false f q = let z : ◌≡◌ {A = ℕ} 0 1 = cc in absurd (omega arith)
 
   -- what is no digit, or too large with it, names no column, whatever follows
-  digit-refused : with_digit n b ≡ Nothing → number_from n (b ∷ s) ≡ Nothing
+  digit-refused : with_digit n b ≡ None → number_from n (b ∷ s) ≡ None
   unfolding with_digit more
   digit-refused p = taken_in ∙ go (is_digit b) (ltb more (2 ^ 64)) refl p
     where
       power : 1 ≤ 10 ^ length s
       power = one-le-pow (length s) 10 (omega arith)
 
-      large : ltb more (2 ^ 64) ≡ false → within (more * 10 ^ length s + value_of s) ≡ Nothing
+      large : ltb more (2 ^ 64) ≡ false → within (more * 10 ^ length s + value_of s) ≡ None
       large e =
           let l : 2 ^ 64 ≤ more = ltb-false more (2 ^ 64) e in
           let m : more ≤ more * 10 ^ length s = le-mul_of_pos_right more power in
           rw (le-ltb (more * 10 ^ length s + value_of s) (2 ^ 64) (omega arith))
 
-      either : (a : Bool) {x : Named} → x ≡ Nothing → cond a x Nothing ≡ Nothing
+      either : (a : Bool) {x : Option ℕ} → x ≡ None → cond a x None ≡ None
       either true q = q
       either false q = refl
 
-      go : (t f : Bool) → ltb more (2 ^ 64) ≡ f → cond t (cond f (Column more) Nothing) Nothing ≡ Nothing
-          → cond (t && all_digits s) (within (more * 10 ^ length s + value_of s)) Nothing ≡ Nothing
+      go : (t f : Bool) → ltb more (2 ^ 64) ≡ f → cond t (cond f (Some more) None) None ≡ None
+          → cond (t && all_digits s) (within (more * 10 ^ length s + value_of s)) None ≡ None
       go true true e q = let z : ◌≡◌ {A = ℕ} 0 1 = cc in absurd (omega arith)
       go true false e q = either (all_digits s) (large e)
       go false f e q = refl
@@ -103,7 +83,7 @@ pub record Taking (s : List ℕ) (n i : ℕ) : Type 0 where
   pub fits : n < 2 ^ 64
   pub whole : column_named s ≡ number_from n (drop i s)
 
-pub none-to-take : (s : List ℕ) → length s ≡ 0 → Nothing ≡ column_named s
+pub none-to-take : (s : List ℕ) → length s ≡ 0 → None ≡ column_named s
 unfolding column_named
 none-to-take s h = rw (eq-eqb (length s) 0 h)
 
@@ -119,18 +99,18 @@ module _ {s : List ℕ} {n i : ℕ} (g : Taking s n i) where
     next : drop i s ≡ get_or s i 0 ∷ drop (i + 1) s
     next = let z : suc i ≡ i + 1 = omega arith in drop-cons s i 0 left ∙ ap (λ (k : ℕ). get_or s i 0 ∷ drop k s) z
 
-    pub taking_step : {m : ℕ} → with_digit n (get_or s i 0) ≡ Column m → Taking s m (i + 1)
+    pub taking_step : {m : ℕ} → with_digit n (get_or s i 0) ≡ Some m → Taking s m (i + 1)
     taking_step {m = m} q = record {
       fits = still-fits n (get_or s i 0) m q;
       whole = g.whole ∙ ap (number_from n) next ∙ digit-taken n (get_or s i 0) (drop (i + 1) s) m q;
     }
 
-    pub taking-refused : with_digit n (get_or s i 0) ≡ Nothing → Nothing ≡ column_named s
+    pub taking-refused : with_digit n (get_or s i 0) ≡ None → None ≡ column_named s
     taking-refused q = sym (g.whole ∙ ap (number_from n) next ∙ digit-refused n (get_or s i 0) (drop (i + 1) s) q)
 
-  pub taking-end : length s ≤ i → Column n ≡ column_named s
+  pub taking-end : length s ≤ i → Some n ≡ column_named s
   unfolding number_from all_digits value_of
   taking-end h =
       let z : n * 10 ^ 0 + 0 ≡ n = omega arith in
-      let e : number_from n [] ≡ Column n = rw (z, lt-ltb n (2 ^ 64) g.fits) in
+      let e : number_from n [] ≡ Some n = rw (z, lt-ltb n (2 ^ 64) g.fits) in
       sym (g.whole ∙ ap (number_from n) (drop_of_length-le s {i = i} h) ∙ e)

@@ -4,7 +4,7 @@ use native.Mathlib.Nat.{min-le_right}
 use native.Mathlib.Omega.{arith}
 use mathlib.Core.List.{List}
 use mathlib.Core.Path.{◌≡◌, sym, ap, ◌∙◌}
-use lib.ListN.{length, take, drop, length-take, length-drop}
+use lib.ListN.{length, drop, length-take, length-drop}
 use borrow.Author.Tests.{lt-ltb, le-ltb}
 use Rattle.limits.specs.Limits.{MOST_INPUT}
 use Rattle.limits.specs.Refusals.{LIMIT}
@@ -13,7 +13,7 @@ use Rattle.printing.proofs.RowsListed.{opened-listed}
 use Rattle.sheet.specs.declared.Found.{Found}
 use Rattle.sheet.specs.Sheet.{entry_at, descriptor_in, offset_in, length_in, named_by, column_found, column_part}
 use Rattle.sheet_laws.proofs.Cases.{Case, opens, refuses, case, opened-fields, part-named}
-use Rattle.column_by.specs.declared.Named.{Named}
+use Rattle.std.specs.Prelude.{Option}
 use Rattle.column_by.specs.Named.{column_named}
 use Rattle.column_by.specs.Asked.{named_number, column_asked}
 
@@ -50,6 +50,6 @@ module _ (f text : List ℕ) where
   unfolding column_asked
   file-long h = rw (lt-ltb MOST_INPUT (length f) h)
 
-  pub named-as : length f ≤ MOST_INPUT → {x : Named} → x ≡ column_named text → {n : ℕ} → n ≡ named_number f x → n ≡ column_asked f text
+  pub named-as : length f ≤ MOST_INPUT → {x : Option ℕ} → x ≡ column_named text → {n : ℕ} → n ≡ named_number f x → n ≡ column_asked f text
   unfolding column_asked
   named-as h e q = rw (le-ltb MOST_INPUT (length f) h) (q ∙ ap (named_number f) e)

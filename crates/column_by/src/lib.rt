@@ -9,63 +9,45 @@ ghost use Rattle.column_by.specs.Asked.{column_asked};
 
 use limits::refusal;
 
-// The column that an argument names, or that it names none.
-#[derive(Clone, Copy)]
-pub enum Named {
-    Column(usize),
-    Nothing,
-}
-
-// An argument is decimal digits, one at least, and their number is below 2^64.
-pub fn column_in(text: &[u8]) -> Named
+// The column that an argument names, if it names one: it is decimal digits, one at least, and their number is below 2^64. `str::parse` takes
+// a `+` before them too.
+pub fn column_in(text: &[u8]) -> Option<usize>
     ensures { result ≡ column_named text.now }
 {
-    if text.len() == 0 {
-        return Named::Nothing;
+    if text.is_empty() {
+        return None;
     }
     let mut n = 0;
-    let mut i = 0;
-    while i < text.len() {
-        let next = with_digit(n, text[i]);
-        let Named::Column(more) = next else {
-            return Named::Nothing;
-        };
-        n = more;
-        i += 1;
+    for b in text {
+        n = with_digit(n, *b)?;
     }
-    Named::Column(n)
+    Some(n)
 }
 
 // A number with one digit more behind it.
-fn with_digit(n: usize, b: u8) -> Named
+#[tactic(auto, unfolding(crate::specs::Named::with_digit))]
+fn with_digit(n: usize, b: u8) -> Option<usize>
     ensures { result ≡ with_digit n b }
 {
-    if b < 48 {
-        return Named::Nothing;
+    if !b.is_ascii_digit() {
+        return None;
     }
-    if 57 < b {
-        return Named::Nothing;
-    }
-    let d = (b - 48) as usize;
-    if (0xffff_ffff_ffff_ffff - d) / 10 < n {
-        return Named::Nothing;
-    }
-    Named::Column(10 * n + d)
+    let d = usize::from(b - b'0');
+    n.checked_mul(10)?.checked_add(d)
 }
 
 // Lists on standard output the column of a sheet file that an argument names. What comes back is 0 or the number that was printed behind
-// `refused`.
+// `refused`; it is a number and no `Refusal` because the sheet's answer, which C has too, is a record with a number.
 pub fn print(file: &[u8], text: &[u8]) -> u8
     ensures { result ≡ column_asked file.now text.now }
 {
     if limits::MOST_INPUT < file.len() {
         return refuse(refusal::LIMIT);
     }
-    let asked = column_in(text);
-    match asked {
-        Named::Column(j) => print_column(file, j),
-        Named::Nothing => refuse(refusal::NO_COLUMN),
-    }
+    let Some(j) = column_in(text) else {
+        return refuse(refusal::NO_COLUMN);
+    };
+    print_column(file, j)
 }
 
 // Column j, as the program `list` lists its descriptor and its block.

@@ -1,4 +1,4 @@
--- Which case of the definitions the tests of `number_of`, `compare` and `print` lead to. Assumes nothing.
+-- Which case of the definitions the tests of `tested`, `compare` and `print` lead to. Assumes nothing.
 use Prim.Native.Nat.{ℕ, zero, suc, ◌≤◌, ◌<◌}
 use native.Mathlib.Omega.{arith}
 use mathlib.Core.List.{List, []}

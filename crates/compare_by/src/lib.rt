@@ -3,18 +3,20 @@
 #![tactic(auto)]
 
 ghost use Rattle.std.specs.Prelude.{◌≡◌, ◌≤◌, length};
+ghost use Rattle.limits.specs.Refusals.{refusal_number, number_in};
 ghost use Rattle.comparing.specs.Comparing.{compared};
 ghost use Rattle.compare_by.specs.Asked.{SLOTS as slots_lent, descriptor_in, file_number, files_number, blocks_compared, files_compared, compares_asked};
 
 use comparing::Compared;
 use descriptor::Descriptor;
-use limits::refusal;
+use limits::refusal::Refusal;
 
 // The most ranges that are printed.
 const SLOTS: usize = 2048;
 
 // Compares two files and prints on standard output a line for each range of rows that differ, or `refused`. What comes back is 0 or the
-// number that was printed behind `refused`.
+// number that was printed behind `refused`; it is a number and no `Refusal` because the comparison's answer, which C has too, is a record
+// with a number.
 pub fn print(first: &[u8], second: &[u8]) -> u8
     ensures { result ≡ compares_asked first.now second.now }
 {
@@ -50,13 +52,11 @@ fn compare(first: &[u8], second: &[u8], firsts: &mut [usize], lasts: &mut [usize
     ensures firsts_after { firsts.new ≡ (files_compared first.now second.now firsts.old lasts.old).firsts }
     ensures lasts_after { lasts.new ≡ (files_compared first.now second.now firsts.old lasts.old).lasts }
 {
-    let one = number_of(first);
-    if one != 0 {
-        return none(one);
+    if let Err(refusal) = tested(first) {
+        return none(refusal);
     }
-    let other = number_of(second);
-    if other != 0 {
-        return none(other);
+    if let Err(refusal) = tested(second) {
+        return none(refusal);
     }
     compare_blocks(first, second, firsts, lasts)
 }
@@ -80,27 +80,30 @@ fn compare_blocks(
     comparing::compare(a, x, b, y, firsts, lasts)
 }
 
-fn none(number: u8) -> Compared
-    ensures { result ≡ compared number 0 }
+fn none(refusal: Refusal) -> Compared
+    ensures { result ≡ compared (refusal_number refusal) 0 }
 {
-    Compared { number, ranges: 0 }
+    Compared {
+        number: u8::from(refusal),
+        ranges: 0,
+    }
 }
 
 // What a file is refused as, before the other is looked at.
-fn number_of(file: &[u8]) -> u8
-    ensures { result ≡ file_number file.now }
+fn tested(file: &[u8]) -> Result<(), Refusal>
+    ensures { number_in result ≡ file_number file.now }
 {
     if file.len() < 8 {
-        return refusal::CUT;
+        return Err(Refusal::Cut);
     }
     if limits::MOST_INPUT < file.len() {
-        return refusal::LIMIT;
+        return Err(Refusal::Limit);
     }
     let d = descriptor_in(file);
     if d.zero != 0 {
-        return refusal::COLUMN;
+        return Err(Refusal::Column);
     }
-    0
+    Ok(())
 }
 
 fn descriptor_in(file: &[u8]) -> Descriptor

@@ -1,4 +1,5 @@
 -- The first rows of a sound block, as its parts show them: they can be walked, and are those that the block holds. Assumes nothing.
+use Rattle.std.specs.Prelude.{Some}
 use Prim.Native.Nat.{ℕ, zero, suc, ◌-◌, ◌≤◌, ◌<◌, ◌^◌}
 use native.Mathlib.Nat.{zero-add}
 use native.Mathlib.Omega.{arith}
@@ -15,8 +16,7 @@ use Rattle.rle.specs.Pieces.{Fine, step_runs}
 use Rattle.rle.proofs.Steps.{Below}
 use Rattle.source.specs.Rows.{most_by, Starts}
 use Rattle.format.specs.declared.Encoding.{Encoding}
-use Rattle.format.specs.declared.Column.TheVariants.{Of}
-use Rattle.format.specs.Blocks.{column_of}
+use Rattle.format.specs.Blocks.{column_of, column}
 use Rattle.format.specs.Opening.{head_of, row_at, most_rows, places_of, rows_of, column_number}
 use Rattle.anatomy.specs.declared.Parts.{Parts}
 use Rattle.anatomy.specs.Parts.{part_in, marks_in, items_in, parts_of, AllWithin}
@@ -65,8 +65,8 @@ unfolding Fine step_runs
 run-below stuck f h = absurd f
 run-below (rows is t) f h = h is t refl
 
-module _ (kind encoding width n : ℕ) (b : List ℕ) (k : Kind) (e : Encoding) (named : column_of kind encoding width ≡ Of k e)
-    (sound : column_number (Of k e) n b ≡ 0) (m : ℕ) (few : m ≤ n) (short : m < 2 ^ 64) where
+module _ (kind encoding width n : ℕ) (b : List ℕ) (k : Kind) (e : Encoding) (named : column_of kind encoding width ≡ Some (column k e))
+    (sound : column_number (Some (column k e)) n b ≡ 0) (m : ℕ) (few : m ≤ n) (short : m < 2 ^ 64) where
   abbrev r : Reader
   r = reader_at kind encoding width n (length b) (head_of e b)
 

@@ -1,4 +1,5 @@
 -- A side that was taken apart: its rows can be walked, and both sides are of one kind. Assumes nothing.
+use Rattle.std.specs.Prelude.{Option, Some, None}
 use Prim.Native.Nat.{ℕ, zero, suc, ◌≤◌, ◌<◌, ◌^◌}
 use native.Mathlib.Omega.{arith}
 use mathlib.Core.Bool.{Bool, true, false, cond}
@@ -8,15 +9,12 @@ use lib.Dec.{eqb}
 use lib.ListN.{length, take}
 use Rattle.limits.specs.Limits.{MOST_ROWS}
 use Rattle.encode.specs.declared.Kind.{Kind}
-use Rattle.encode.specs.declared.FoundKind.{FoundKind}
-use Rattle.encode.specs.declared.FoundKind.TheVariants.{Known, Unknown as UnknownKind}
 use Rattle.encode.specs.Kinds.{kind_of}
 use Rattle.plain.specs.Rows.{Row}
 use Rattle.format.specs.declared.Encoding.{Encoding}
 use Rattle.format.specs.declared.Encoding.TheVariants.{Plain, Nullable, RunLength, RunLengthNullable, Dictionary}
 use Rattle.format.specs.declared.Column.{Column}
-use Rattle.format.specs.declared.Column.TheVariants.{Of, Unknown}
-use Rattle.format.specs.Blocks.{with_encoding, column_of}
+use Rattle.format.specs.Blocks.{with_encoding, column_of, column}
 use Rattle.format.specs.Opening.{most_rows, rows_of}
 use Rattle.anatomy.specs.declared.Parts.{Parts}
 use Rattle.anatomy.specs.Parts.{part_in, marks_in, items_in, AllWithin}
@@ -27,18 +25,25 @@ use Rattle.comparing.specs.Taken.{Opens}
 use Rattle.comparing.proofs.Blocks.{block-walks, block-rows, block_within, block-kind, block-long, block-few}
 
 -- ---- the kind that a column's numbers name
-of-kind : {k k' : Kind} {e f : Encoding} → ◌≡◌ {A = Column} (Of k' f) (Of k e) → k' ≡ k
-of-kind q = cc
+abbrev kind-in : Kind → Option Column → Kind
+kind-in k (Some c) = c.kind
+kind-in k None = k
 
-never-of : {k : Kind} {e : Encoding} → ◌≡◌ {A = Column} Unknown (Of k e) → ⊥
+of-kind : {k k' : Kind} {e f : Encoding} → ◌≡◌ {A = Option Column} (Some (column k' f)) (Some (column k e)) → k' ≡ k
+of-kind {k = k} q = ap (kind-in k) q
+
+never-of : {k : Kind} {e : Encoding} → ◌≡◌ {A = Option Column} None (Some (column k e)) → ⊥
 never-of q = let z : ◌≡◌ {A = ℕ} 0 1 = cc in omega arith
 
-kind-by : (f : FoundKind) (n : ℕ) {k : Kind} {e : Encoding} → with_encoding f n ≡ Of k e → f ≡ Known k
+kind-by : (f : Option Kind) (n : ℕ) {k : Kind} {e : Encoding} → with_encoding f n ≡ Some (column k e) → f ≡ Some k
 unfolding with_encoding
-kind-by UnknownKind n {k} {e} q = absurd (never-of q)
-kind-by (Known k') n {k} {e} q = ap Known (go (eqb n 0) (eqb n 1) (eqb n 2) (eqb n 3) (eqb n 4) q)
+kind-by None n {k} {e} q = absurd (never-of q)
+kind-by (Some k') n {k} {e} q = ap Some (go (eqb n 0) (eqb n 1) (eqb n 2) (eqb n 3) (eqb n 4) q)
   where
-    go : (a b c d f : Bool) → cond a (Of k' Plain) (cond b (Of k' Nullable) (cond c (Of k' RunLength) (cond d (Of k' RunLengthNullable) (cond f (Of k' Dictionary) Unknown)))) ≡ Of k e → k' ≡ k
+    go : (a b c d f : Bool)
+        → cond a (Some (column k' Plain)) (cond b (Some (column k' Nullable)) (cond c (Some (column k' RunLength))
+        (cond d (Some (column k' RunLengthNullable)) (cond f (Some (column k' Dictionary)) None)))) ≡ Some (column k e)
+        → k' ≡ k
     go true b c d f q = of-kind q
     go false true c d f q = of-kind q
     go false false true d f q = of-kind q
@@ -46,11 +51,11 @@ kind-by (Known k') n {k} {e} q = ap Known (go (eqb n 0) (eqb n 1) (eqb n 2) (eqb
     go false false false false true q = of-kind q
     go false false false false false q = absurd (never-of q)
 
-kind-named : (kind encoding width : ℕ) {k : Kind} {e : Encoding} → column_of kind encoding width ≡ Of k e → kind_of kind width ≡ Known k
+kind-named : (kind encoding width : ℕ) {k : Kind} {e : Encoding} → column_of kind encoding width ≡ Some (column k e) → kind_of kind width ≡ Some k
 unfolding column_of
 kind-named kind encoding width q = kind-by (kind_of kind width) encoding q
 
-known-once : {k k' : Kind} → ◌≡◌ {A = FoundKind} (Known k) (Known k') → k ≡ k'
+known-once : {k k' : Kind} → ◌≡◌ {A = Option Kind} (Some k) (Some k') → k ≡ k'
 known-once q = cc
 
 rows-most : (e : Encoding) → most_rows e ≤ MOST_ROWS

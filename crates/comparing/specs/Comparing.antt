@@ -1,11 +1,10 @@
 -- 02 (xi): two blocks of one kind and width compared, in any encodings: the maximal ranges of the rows, as read, that differ. Assumes nothing.
-use Rattle.std.specs.Prelude.{ℕ, zero, suc, Bool, cond, not, ◌&&◌, ◌||◌, List, [], ◌∷◌, map, ltb, eqb, length}
+use Rattle.std.specs.Prelude.{ℕ, zero, suc, Bool, cond, not, ◌&&◌, ◌||◌, List, [], ◌∷◌, map, ltb, eqb, length, Option, Some, None}
 use Rattle.limits.specs.Refusals.{ROOM, UNLIKE}
 use Rattle.area.specs.Area.{over}
 use Rattle.plain.specs.Rows.{Row}
 use Rattle.plain.specs.Rules.{◌if◌, first_of}
 use Rattle.format.specs.declared.Column.{Column}
-use Rattle.format.specs.declared.Column.TheVariants.{Of, Unknown}
 use Rattle.format.specs.Blocks.{column_of}
 use Rattle.format.specs.Opening.{rows_of}
 use Rattle.descriptor.specs.declared.Descriptor.{Descriptor}
@@ -15,9 +14,9 @@ use Rattle.in_step.specs.Differences.{differences}
 use Rattle.comparing.specs.declared.Compared.{Compared}
 
 -- ---- the rows of a block that its descriptor opens
-unfoldable pub rows_in : Column → ℕ → List ℕ → List Row
-rows_in Unknown n b = []
-rows_in (Of k e) n b = rows_of k e n b
+unfoldable pub rows_in : Option Column → ℕ → List ℕ → List Row
+rows_in None n b = []
+rows_in (Some c) n b = rows_of c.kind c.encoding n b
 
 abbrev pub described_rows : Descriptor → List ℕ → List Row
 described_rows d b = rows_in (column_of d.kind d.encoding d.width) d.rows b

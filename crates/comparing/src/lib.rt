@@ -12,7 +12,7 @@ use anatomy::Parts;
 use descriptor::Descriptor;
 use limits::refusal;
 use ranged::mark_ranges;
-use sides::{Side, take_side};
+use sides::take_side;
 
 // What comparing answers: how many ranges were written, or a refusal.
 #[repr(C)]
@@ -41,10 +41,9 @@ pub fn compare(
     if a.width != b.width {
         return refused(refusal::UNLIKE);
     }
-    let side = take_side(a, first);
-    match side {
-        Side::Whole(p) => compare_to(a, p, first, b, second, firsts, lasts),
-        Side::Refused(number) => refused(number),
+    match take_side(a, first) {
+        Ok(p) => compare_to(a, p, first, b, second, firsts, lasts),
+        Err(refusal) => refused(u8::from(refusal)),
     }
 }
 
@@ -63,10 +62,9 @@ fn compare_to(
     ensures firsts_after { firsts.new ≡ (compare a first.now b second.now firsts.old lasts.old).firsts }
     ensures lasts_after { lasts.new ≡ (compare a first.now b second.now firsts.old lasts.old).lasts }
 {
-    let side = take_side(b, second);
-    match side {
-        Side::Whole(q) => put_ranges(a, p, first, b, q, second, firsts, lasts),
-        Side::Refused(number) => refused(number),
+    match take_side(b, second) {
+        Ok(q) => put_ranges(a, p, first, b, q, second, firsts, lasts),
+        Err(refusal) => refused(u8::from(refusal)),
     }
 }
 

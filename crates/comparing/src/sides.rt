@@ -1,31 +1,25 @@
 // A block opened and taken apart.
 ghost use Rattle.std.specs.Prelude.{◌≡◌};
+ghost use Rattle.limits.specs.Refusals.{by_number};
 ghost use Rattle.comparing.specs.Taken.{side_of};
 
 use anatomy::Parts;
 use descriptor::Descriptor;
-use format::Column;
-use limits::refusal;
+use limits::refusal::Refusal;
 
 // The parts of a sound block, or its refusal.
-#[derive(Clone, Copy)]
-pub enum Side {
-    Whole(Parts),
-    Refused(u8),
-}
-
-pub fn take_side(d: Descriptor, block: &[u8]) -> Side
-    ensures { result ≡ side_of d block.now }
+pub fn take_side(d: Descriptor, block: &[u8]) -> Result<Parts, Refusal>
+    ensures { by_number result ≡ side_of d block.now }
 {
-    let opening = descriptor::open_by_number(d, block);
-    if opening.number != 0 {
-        return Side::Refused(opening.number);
-    }
-    let column = format::column_of(d.kind, d.encoding, d.width);
-    let Column::Of { kind, encoding } = column else {
-        return Side::Refused(refusal::COLUMN);
+    let reader = descriptor::open_by(d, block)?;
+    let Some(column) = format::column_of(d.kind, d.encoding, d.width) else {
+        return Err(Refusal::Column);
     };
-    let reader = opening.reader;
-    let head = reader.head;
-    Side::Whole(anatomy::take_apart(kind, encoding, reader.rows, reader.len, head))
+    Ok(anatomy::take_apart(
+        column.kind,
+        column.encoding,
+        reader.rows,
+        reader.len,
+        reader.head,
+    ))
 }

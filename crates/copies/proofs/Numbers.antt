@@ -23,9 +23,8 @@ use Rattle.needs.specs.declared.Counted.{Counted}
 use Rattle.needs.specs.Needs.{coded, keyed, stored_by, inner_bytes, finished_bytes, counts_past, past_limits}
 use Rattle.needs.proofs.Lengths.{inner-least, run-some}
 use Rattle.needs.proofs.Limits.{few, within, limit-past, limit-holds, past-stored}
-use Rattle.step.specs.declared.Next.{Next}
 use Rattle.step.specs.Steps.{run_open}
-use Rattle.step.specs.Counting.{grown, next_of, with_entries}
+use Rattle.step.specs.Counting.{Next, grown, next_of, with_entries}
 use Rattle.step.proofs.Steps.{opened}
 use Rattle.step.proofs.Growth.{run-same, key-same, bytes-few, counts-few, finished-holds, not-joined}
 use Rattle.copies.specs.Copies.{joins_again, stores_again}

@@ -1,6 +1,6 @@
 -- 02 (v): append of one row n times, as a function of what is counted, the row and what the lent areas hold, for any numbers and all memory; said by single
 -- rows. Assumes nothing.
-use Rattle.std.specs.Prelude.{ℕ, zero, suc, Bool, cond, not, ◌&&◌, ℤ, length}
+use Rattle.std.specs.Prelude.{Option, Some, None, ℕ, zero, suc, Bool, cond, not, ◌&&◌, ℤ, length}
 use Rattle.limits.specs.Refusals.{ITEM, DISAGREE}
 use Rattle.encode.specs.declared.Kind.{Kind}
 use Rattle.plain.specs.Rows.{Row, fits}
@@ -10,7 +10,6 @@ use Rattle.format.specs.declared.Encoding.{Encoding}
 use Rattle.needs.specs.declared.Counted.{Counted}
 use Rattle.needs.specs.Needs.{coded, keyed, disagree}
 use Rattle.step.specs.declared.Step.{Step}
-use Rattle.step.specs.declared.Step.TheVariants.{Row as Adds, Wrong}
 use Rattle.step.specs.Steps.{run_open, step_of}
 use Rattle.step.specs.Counting.{grown, next_of}
 use Rattle.append.specs.Appending.{Lent, room_of, held_in, laid, Added, added_to, added_with}
@@ -48,11 +47,12 @@ times k e row item joins key zero g = g
 times k e row item joins key (suc n) g = times_more k e row key n (one_more k e row item joins key g)
 
 -- ---- append of one row n times: 9 for the numbers, the areas and the fields, 2; 3 and 4 for all n rows; a refusal gives back what it was given
-unfoldable pub added_times_by : Kind → Encoding → Counted → Lent → ℕ → Row → Step → Added
-added_times_by k e r a n row Wrong = added_to (next_of DISAGREE r) a
-added_times_by k e r a n row (Adds item joins key) =
+unfoldable pub added_times_by : Kind → Encoding → Counted → Lent → ℕ → Row → Option Step → Added
+added_times_by k e r a n row None = added_to (next_of DISAGREE r) a
+added_times_by k e r a n row (Some s) =
     cond (not (fits k row)) (added_to (next_of ITEM r) a)
-    (added_with k e r a (times k e row item joins key n (stage r a)).counted (times k e row item joins key n (stage r a)).areas)
+    (added_with k e r a (times k e row s.stored s.joins s.key n (stage r a)).counted
+    (times k e row s.stored s.joins s.key n (stage r a)).areas)
 
 unfoldable pub added_times : Kind → Encoding → Counted → Lent → ℕ → Row → Added
 added_times k e r a n row =

@@ -5,8 +5,7 @@ use Rattle.varint.specs.Varint.{spelling}
 use Rattle.format.specs.declared.Encoding.{Encoding}
 use Rattle.needs.specs.declared.Counted.{Counted}
 use Rattle.needs.specs.Needs.{past_limits}
-use Rattle.step.specs.declared.Next.{Next}
-use Rattle.step.specs.Counting.{grown, next_of}
+use Rattle.step.specs.Counting.{Next, grown, next_of}
 use Rattle.limits.specs.Refusals.{LIMIT}
 use Rattle.copies.specs.Copies.{joins_again, stores_again}
 

@@ -1,26 +1,16 @@
-// The counted numbers with all n rows counted in, or 3.
+// The counted numbers with all n rows counted in, or that they pass a limit.
 ghost use Rattle.std.specs.Prelude.{◌≡◌, true, false, cond, not, ◌&&◌, ◌-◌, ◌*◌, ◌≤◌, ◌<◌, ltb};
 ghost use Rattle.limits.specs.Limits.{MOST_BYTES, MOST_COUNT};
-ghost use Rattle.limits.specs.Refusals.{LIMIT};
 ghost use Rattle.needs.specs.Needs.{coded, keyed, past_limits, record_wrong};
-ghost use Rattle.step.specs.Counting.{grown, next_of};
+ghost use Rattle.step.specs.Counting.{grown, answered};
 ghost use Rattle.copies.specs.Copies.{stores_again};
 ghost use Rattle.copies.specs.Stretch.{grown_times, limited};
 
 use crate::counting::{begun, counted_in, joined, joins_again};
 use encode::Kind;
 use format::Encoding;
+use limits::refusal::Refusal;
 use needs::Counted;
-use step::Next;
-
-fn past(c: Counted) -> Next
-    ensures { result ≡ next_of LIMIT c }
-{
-    Next {
-        number: limits::refusal::LIMIT,
-        counted: c,
-    }
-}
 
 // ---- rows: as many items more
 
@@ -31,16 +21,16 @@ fn rows_counted(
     e: Encoding,
     len: usize,
     more: usize,
-) -> Next
+) -> Result<Counted, Refusal>
     requires { (coded e ≡ false) × (past_limits kind e first ≡ false) × (len ≤ MOST_BYTES) }
-    ensures { result ≡ limited kind e given (grown_times e 0 len more first) }
+    ensures { answered given result ≡ limited kind e given (grown_times e 0 len more first) }
 {
     if limits::MOST_ITEMS - first.rows < more {
-        return past(given);
+        return Err(Refusal::Limit);
     }
     let bytes = more * len;
     if limits::MOST_BYTES < bytes {
-        return past(given);
+        return Err(Refusal::Limit);
     }
     let all = Counted {
         rows: first.rows + more,
@@ -52,12 +42,9 @@ fn rows_counted(
         counts: first.counts,
     };
     if needs::is_past(all, kind, e) {
-        return past(given);
+        return Err(Refusal::Limit);
     }
-    Next {
-        number: 0,
-        counted: all,
-    }
+    Ok(all)
 }
 
 // ---- runs: stretch by stretch
@@ -113,27 +100,25 @@ fn runs_counted(
     present: bool,
     len: usize,
     more: usize,
-) -> Next
+) -> Result<Counted, Refusal>
     requires { (coded e ≡ true) × (past_limits kind e first ≡ false) × (0 < first.runs) }
-    ensures { result ≡ limited kind e given (grown_times e (cond present 1 0) len more first) }
+    ensures { answered given result ≡ limited kind e given (grown_times e (cond present 1 0) len more first) }
 {
     let mut now = first;
     let mut left = more;
+    // No `for` is plainer: a step takes as many of the rows that are left as join.
     while 0 < left {
         if too_long_again(now, e, len) {
-            return past(given);
+            return Err(Refusal::Limit);
         }
         let next = next_stretch(now, kind, e, present, len, left);
         if needs::is_past(next.counted, kind, e) {
-            return past(given);
+            return Err(Refusal::Limit);
         }
         now = next.counted;
         left -= next.rows;
     }
-    Next {
-        number: 0,
-        counted: now,
-    }
+    Ok(now)
 }
 
 // ---- all n rows: the first as an append finds it, the others behind it
@@ -147,17 +132,17 @@ pub fn all_counted(
     stored: bool,
     joins: bool,
     n: usize,
-) -> Next
+) -> Result<Counted, Refusal>
     requires { (record_wrong kind e c ≡ false) × (0 < n) × (joins ≡ true → (0 < c.runs) × (c.last < MOST_COUNT)) × (keyed e ≡ false → stored ≡ not joins)
         × (coded e ≡ false → (stored ≡ true) × (joins ≡ false)) }
-    ensures { result ≡ limited kind e c (grown_times e (cond present 1 0) len (n - 1) (grown e c (cond present 1 0) len stored joins)) }
+    ensures { answered c result ≡ limited kind e c (grown_times e (cond present 1 0) len (n - 1) (grown e c (cond present 1 0) len stored joins)) }
 {
     if step::too_long(stored, len) {
-        return past(c);
+        return Err(Refusal::Limit);
     }
     let first = counted_in(c, e, present, len, stored, joins);
     if needs::is_past(first, kind, e) {
-        return past(c);
+        return Err(Refusal::Limit);
     }
     if needs::is_coded(e) {
         return runs_counted(c, first, kind, e, present, len, n - 1);

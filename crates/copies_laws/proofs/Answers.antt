@@ -7,6 +7,7 @@ use mathlib.Core.Logic.{◌⊎◌, inl, inr}
 use mathlib.Core.Path.{◌≡◌, refl, sym, ap, ◌∙◌}
 use lib.IntN.{ℤ}
 use borrow.Author.Tests.{le-ltb}
+use Rattle.std.specs.Prelude.{Option, Some, None}
 use Rattle.limits.specs.Limits.{MOST_BYTES}
 use Rattle.limits.specs.Refusals.{ITEM, DISAGREE}
 use Rattle.encode.specs.declared.Kind.{Kind}
@@ -17,7 +18,6 @@ use Rattle.needs.specs.declared.Counted.{Counted}
 use Rattle.needs.specs.Needs.{finished_bytes, past_limits, too_short, disagree}
 use Rattle.needs.proofs.Wrong.{right, agree}
 use Rattle.step.specs.declared.Step.{Step}
-use Rattle.step.specs.declared.Step.TheVariants.{Row as Adds, Wrong}
 use Rattle.step.specs.Steps.{step_of}
 use Rattle.step.specs.Counting.{next_of}
 use Rattle.append.specs.Appending.{Lent, room_of, held_in, Added, added_to, added_with, added_by, added}
@@ -26,10 +26,10 @@ use Rattle.copies.specs.Copies.{Stage, stage, one_more, times_more, times, added
 
 -- ---- once
 module _ (k : Kind) (e : Encoding) (r : Counted) (a : Lent) (row : Row) where
-  once_by : (s : Step) → added_times_by k e r a 1 row s ≡ added_by k e r a row s
+  once_by : (s : Option Step) → added_times_by k e r a 1 row s ≡ added_by k e r a row s
   unfolding added_times_by added_by times times_more one_more
-  once_by Wrong = refl
-  once_by (Adds item joins key) = refl
+  once_by None = refl
+  once_by (Some s) = refl
 
   pub once : added_times k e r a 1 row ≡ added k e r a row
   unfolding added_times added
@@ -113,12 +113,12 @@ module _ (k : Kind) (e : Encoding) (r : Counted) (a : Lent) where
     unfolding added_times added_times_by
     times-told = go (disagree k e r (room_of a)) (step_of k e r (held_in a) a.keys row) (fits k row) refl refl refl
       where
-        go : (d : Bool) (s : Step) (f : Bool) → disagree k e r (room_of a) ≡ d → step_of k e r (held_in a) a.keys row ≡ s → fits k row ≡ f
+        go : (d : Bool) (s : Option Step) (f : Bool) → disagree k e r (room_of a) ≡ d → step_of k e r (held_in a) a.keys row ≡ s → fits k row ≡ f
             → Told (added_times k e r a n row)
         go true s f p q t = inl (8, rw p)
-        go false Wrong f p q t = inl (8, rw (p, q))
-        go false (Adds item joins key) false p q t = inl (1, rw (p, q, t))
-        go false (Adds item joins key) true p q t = rw (p, q, t) (found-told (record { agrees = p; step = sym q; fit = t }))
+        go false None f p q t = inl (8, rw (p, q))
+        go false (Some s) false p q t = inl (1, rw (p, q, t))
+        go false (Some s) true p q t = rw (p, q, t) (found-told (record { agrees = p; step = sym q; fit = t }))
 
     pub accepts : (added_times k e r a n row).answer.number ≡ 0 → Accepts k e r a n row
     accepts h = go times-told
@@ -164,9 +164,9 @@ module _ (k : Kind) (e : Encoding) (r : Counted) (a : Lent) where
     unfolding added_times added_times_by
     none-appended = go (disagree k e r (room_of a)) (step_of k e r (held_in a) a.keys row) (fits k row) refl refl refl
       where
-        go : (d : Bool) (s : Step) (f : Bool) → disagree k e r (room_of a) ≡ d → step_of k e r (held_in a) a.keys row ≡ s → fits k row ≡ f
+        go : (d : Bool) (s : Option Step) (f : Bool) → disagree k e r (room_of a) ≡ d → step_of k e r (held_in a) a.keys row ≡ s → fits k row ≡ f
             → NoneOf (added_times k e r a 0 row)
         go true s f p q t = inr (inl (rw p))
-        go false Wrong f p q t = inr (inl (rw (p, q)))
-        go false (Adds item joins key) false p q t = inr (inr (rw (p, q, t), t))
-        go false (Adds item joins key) true p q t = inl (found_none (record { agrees = p; step = sym q; fit = t }))
+        go false None f p q t = inr (inl (rw (p, q)))
+        go false (Some s) false p q t = inr (inr (rw (p, q, t), t))
+        go false (Some s) true p q t = inl (found_none (record { agrees = p; step = sym q; fit = t }))

@@ -3,7 +3,7 @@
 use Prim.Native.Nat.{◌<◌}
 use mathlib.Core.Bool.{Bool, true, false}
 use mathlib.Core.Path.{◌≡◌, refl, sym, ap, subst, ◌∙◌}
-use lib.IntN.{ℤ, pos}
+use lib.IntN.{ℤ}
 use lib.ListN.{length}
 use Rattle.encode.specs.declared.Kind.{Kind}
 use Rattle.encode.proofs.Bools.{clash}
@@ -16,10 +16,9 @@ use Rattle.needs.specs.declared.Counted.{Counted}
 use Rattle.needs.specs.Needs.{coded, flagged, keyed, stored_by, bytes_wrong, past_limits, too_short}
 use Rattle.needs.proofs.Encodings.{keyed-coded}
 use Rattle.needs.proofs.Wrong.{bytes-right}
-use Rattle.step.specs.declared.Step.TheVariants.{Row as Adds}
-use Rattle.step.specs.Steps.{step_of}
+use Rattle.step.specs.Steps.{adds, step_of}
 use Rattle.step.specs.Counting.{grown, next_of, counted_by}
-use Rattle.step.proofs.Steps.{step-says}
+use Rattle.step.proofs.Steps.{adds_same, step-says}
 use Rattle.append.specs.Appending.{Lent, room_of, held_in, laid, Added, added}
 use Rattle.append.specs.Asking.{Stores}
 use Rattle.append.specs.Asking.{Found}
@@ -34,10 +33,10 @@ use Rattle.copies_laws.proofs.AgreeAgain.{room-kept, agree-again}
 -- ---- what is found: by encoding
 module _ (k : Kind) (r : Counted) (a : Lent) (row : Row) (item joins : Bool) (key : ℤ) where
   -- encodings 0 and 1 store each row
-  each-stored : (e : Encoding) → coded e ≡ false → Adds item joins key ≡ step_of k e r (held_in a) a.keys row → item ≡ true
+  each-stored : (e : Encoding) → coded e ≡ false → adds item joins key ≡ step_of k e r (held_in a) a.keys row → item ≡ true
   unfolding step_of coded
-  each-stored Plain c q = cc
-  each-stored Nullable c q = cc
+  each-stored Plain c q = (adds_same q).0
+  each-stored Nullable c q = (adds_same q).0
   each-stored RunLength c q = clash c
   each-stored RunLengthNullable c q = clash c
   each-stored Dictionary c q = clash c
@@ -48,13 +47,13 @@ module _ (k : Kind) (r : Counted) (a : Lent) (row : Row) (item joins : Bool) (ke
   abbrev pub after_by : Encoding → Lent
   after_by e = laid k e r row item joins key a
 
-  step-again : (e : Encoding) → Adds item joins key ≡ step_of k e r (held_in a) a.keys row → bytes_wrong k (stored_by e r) r.bytes ≡ false
+  step-again : (e : Encoding) → adds item joins key ≡ step_of k e r (held_in a) a.keys row → bytes_wrong k (stored_by e r) r.bytes ≡ false
       → (item ≡ true → Stores k (flagged e) (stored_by e r) r.bytes row (length (item_of k row)) a.items a.ends a.flags a.lens)
       → (keyed e ≡ true → joins ≡ false → r.runs < length a.keys)
       → StepsAgain k e (next_by e) (after_by e) row key
   unfolding step_of grown laid stored_by coded keyed stores_again joins_again
-  step-again Plain q b w l = let z : key ≡ pos 0 = cc in ap (Adds true false) (sym z)
-  step-again Nullable q b w l = let z : key ≡ pos 0 = cc in ap (Adds true false) (sym z)
+  step-again Plain q b w l = ap (adds true false) (sym (adds_same q).2)
+  step-again Nullable q b w l = ap (adds true false) (sym (adds_same q).2)
   step-again RunLength q b w l = runs-again k row r (next_by RunLength) a.items a.ends a.lens item joins key b w refl refl refl q
   step-again RunLengthNullable q b w l = runs-again k row r (next_by RunLengthNullable) a.items a.ends a.lens item joins key b w refl refl refl q
   step-again Dictionary q b w l =
@@ -101,10 +100,10 @@ module _ (k : Kind) (e : Encoding) (r : Counted) (a : Lent) (row : Row) where
       let q = sym (once k e r a row) ∙ accepted k e r a 1 row g in
       rw q (f.agrees, sym f.step)
 
-  pub found-again : (item joins : Bool) (key : ℤ) → step_of k e r (held_in a) a.keys row ≡ Adds item joins key → Accepted (added k e r a row)
+  pub found-again : (item joins : Bool) (key : ℤ) → step_of k e r (held_in a) a.keys row ≡ adds item joins key → Accepted (added k e r a row)
       → let x = added k e r a row in FindsAgain k e x.answer.counted x.areas row key
   found-again item joins key q h =
       let g = accepts k e r a 1 row (ap (λ (x : Added). x.answer.number) (once k e r a row) ∙ h) in
-      let p : Adds g.item g.joins g.key ≡ Adds item joins key = g.found.step ∙ q in
-      let z : g.key ≡ key = cc in
+      let p : adds g.item g.joins g.key ≡ adds item joins key = g.found.step ∙ q in
+      let z : g.key ≡ key = (adds_same p).2 in
       subst (λ (i : ℤ). FindsAgain k e (added k e r a row).answer.counted (added k e r a row).areas row i) z (after-once g)

@@ -20,14 +20,13 @@ use Rattle.plain.specs.Plain.{item_of, places}
 use Rattle.plain.proofs.Same.{same_self}
 use Rattle.nullable.specs.Nullable.{presence}
 use Rattle.dict.specs.Dictionary.{null_key, entry_key}
-use Rattle.lookup.specs.declared.Looked.{Looked}
-use Rattle.lookup.specs.declared.Looked.TheVariants.{Entry, Bad}
+use Rattle.std.specs.Prelude.{Option, Some, None}
 use Rattle.lookup.specs.Held.{Held, held, held_row, field_wrong, look_from, look_up}
 use Rattle.lookup.proofs.Alike.{int_same}
 use Rattle.needs.specs.declared.Counted.{Counted}
 use Rattle.needs.specs.Needs.{bytes_wrong}
-use Rattle.step.specs.declared.Step.TheVariants.{Row as Adds}
-use Rattle.step.specs.Steps.{run_open, joins_key, entry_step, key_step}
+use Rattle.step.proofs.Steps.{adds_same}
+use Rattle.step.specs.Steps.{adds, run_open, joins_key, entry_step, key_step}
 use Rattle.append.specs.Asking.{Stores}
 use Rattle.copies_laws.proofs.ReadBack.{written, held_next, Behind, behind, new-field, new_row, old-field, old_row}
 
@@ -37,16 +36,16 @@ module _ (k : Kind) (n len : ℕ) (h : Held) (row : Row) where
   abbrev pub Other : ℕ → Type 0
   Other i = (field_wrong k n len h i ≡ false) × (same row (held_row k h i) ≡ false)
 
-  one-other : (i : ℕ) (rest : Looked) → i < n → cond (field_wrong k n len h i) Bad (cond (same row (held_row k h i)) (Entry i) rest) ≡ Entry n
-      → Other i × (rest ≡ Entry n)
+  one-other : (i : ℕ) (rest : Option ℕ) → i < n → cond (field_wrong k n len h i) None (cond (same row (held_row k h i)) (Some i) rest) ≡ Some n
+      → Other i × (rest ≡ Some n)
   one-other i rest l q = go (field_wrong k n len h i) (same row (held_row k h i)) refl refl q
     where
-      go : (x y : Bool) → field_wrong k n len h i ≡ x → same row (held_row k h i) ≡ y → cond x Bad (cond y (Entry i) rest) ≡ Entry n → Other i × (rest ≡ Entry n)
+      go : (x y : Bool) → field_wrong k n len h i ≡ x → same row (held_row k h i) ≡ y → cond x None (cond y (Some i) rest) ≡ Some n → Other i × (rest ≡ Some n)
       go true y c d p = let z : ◌≡◌ {A = ℕ} 0 1 = cc in absurd (omega arith)
       go false true c d p = let z : i ≡ n = cc in absurd (omega arith)
       go false false c d p = ((c, d), p)
 
-  from-others : (m i : ℕ) → i + m ≡ n → look_from k n len h row (places m i) ≡ Entry n → (j : ℕ) → i ≤ j → j < n → Other j
+  from-others : (m i : ℕ) → i + m ≡ n → look_from k n len h row (places m i) ≡ Some n → (j : ℕ) → i ≤ j → j < n → Other j
   unfolding look_from places
   from-others zero i e q j a b = absurd (omega arith)
   from-others (suc m) i e q j a b =
@@ -55,7 +54,7 @@ module _ (k : Kind) (n len : ℕ) (h : Held) (row : Row) where
       (λ (l : j ≤ i). let z : i ≡ j = omega arith in subst (λ (x : ℕ). Other x) z o.0)
       (lt-or-ge i j)
 
-  pub all_others : look_up k n len h row ≡ Entry n → (i : ℕ) → i < n → Other i
+  pub all_others : look_up k n len h row ≡ Some n → (i : ℕ) → i < n → Other i
   unfolding look_up
   all_others q i l = from-others n 0 (omega arith) q i (omega arith) l
 
@@ -67,7 +66,7 @@ module _ (k : Kind) (n len : ℕ) (h : Held) (row : Row) where
     abbrev end : ℕ
     end = len + length (item_of k row)
 
-    from-again : (m i : ℕ) → i + m ≡ n → look_from k (n + 1) end after row (places (suc m) i) ≡ Entry n
+    from-again : (m i : ℕ) → i + m ≡ n → look_from k (n + 1) end after row (places (suc m) i) ≡ Some n
     unfolding look_from places
     from-again zero i e =
         let z : i ≡ n = omega arith in
@@ -77,7 +76,7 @@ module _ (k : Kind) (n len : ℕ) (h : Held) (row : Row) where
         let o = others i l in
         rw (old-field n len row h i l k o.0, old_row n len row h i l k g o.0, o.1) (from-again m (suc i) (omega arith))
 
-    pub entry-again : look_up k (n + 1) end after row ≡ Entry n
+    pub entry-again : look_up k (n + 1) end after row ≡ Some n
     unfolding look_up
     entry-again = ap (λ (m : ℕ). look_from k (n + 1) end after row (places m 0)) (add-one n) ∙ from-again n 0 (omega arith)
 
@@ -111,34 +110,33 @@ module _ (k : Kind) (row : Row) where
 
   record EntryFound (r : Counted) (h : Held) (keys : List ℤ) (item joins : Bool) (key : ℤ) : Type 0 where
     place : ℕ
-    looked : look_up k r.entries r.bytes h row ≡ Entry place
+    looked : look_up k r.entries r.bytes h row ≡ Some place
     stored : item ≡ eqb place r.entries
     joined : joins ≡ joins_key r keys key
     named : key ≡ entry_key place
 
-  entry_found : (r : Counted) (h : Held) (keys : List ℤ) (item joins : Bool) (key : ℤ) (l : Looked) → look_up k r.entries r.bytes h row ≡ l
-      → Adds item joins key ≡ entry_step r keys l → EntryFound r h keys item joins key
+  entry_found : (r : Counted) (h : Held) (keys : List ℤ) (item joins : Bool) (key : ℤ) (l : Option ℕ) → look_up k r.entries r.bytes h row ≡ l
+      → adds item joins key ≡ entry_step r keys l → EntryFound r h keys item joins key
   unfolding entry_step
-  entry_found r h keys item joins key Bad p q = let z : ◌≡◌ {A = ℕ} 0 1 = cc in absurd (omega arith)
-  entry_found r h keys item joins key (Entry i) p q =
-      let n : key ≡ entry_key i = cc in
-      let j : joins ≡ joins_key r keys (entry_key i) = cc in
-      record { place = i; looked = p; stored = cc; joined = j ∙ ap (joins_key r keys) (sym n); named = n }
+  entry_found r h keys item joins key None p q = let z : ◌≡◌ {A = ℕ} 0 1 = cc in absurd (omega arith)
+  entry_found r h keys item joins key (Some i) p q =
+      let e = adds_same q in
+      record { place = i; looked = p; stored = e.0; joined = e.1 ∙ ap (joins_key r keys) (sym e.2); named = e.2 }
 
   -- ---- and found again, where the lookup finds an entry that is there
-  entry-step-again : (s : Counted) (h : Held) (keys : List ℤ) (i : ℕ) → presence row ≡ 1 → look_up k s.entries s.bytes h row ≡ Entry i
-      → eqb i s.entries ≡ false → joins_key s keys (entry_key i) ≡ run_open s → key_step k s h keys row ≡ Adds false (run_open s) (entry_key i)
+  entry-step-again : (s : Counted) (h : Held) (keys : List ℤ) (i : ℕ) → presence row ≡ 1 → look_up k s.entries s.bytes h row ≡ Some i
+      → eqb i s.entries ≡ false → joins_key s keys (entry_key i) ≡ run_open s → key_step k s h keys row ≡ adds false (run_open s) (entry_key i)
   unfolding entry_step
   entry-step-again s h keys i p l b j = value-step s h keys p ∙ rw (l, b, j)
 
   module _ (r s : Counted) (is es ls : List ℕ) (keys : List ℤ) {f : Bool} {fs : List ℕ} (need : bytes_wrong k r.entries r.bytes ≡ false) where
-    looked-again : (item : Bool) (i : ℕ) → presence row ≡ 1 → look_up k r.entries r.bytes (held is es ls) row ≡ Entry i → item ≡ eqb i r.entries
+    looked-again : (item : Bool) (i : ℕ) → presence row ≡ 1 → look_up k r.entries r.bytes (held is es ls) row ≡ Some i → item ≡ eqb i r.entries
         → (item ≡ true → Stores k f r.entries r.bytes row (length (item_of k row)) is es fs ls)
         → s.entries ≡ cond item (r.entries + 1) r.entries → s.bytes ≡ cond item (r.bytes + length (item_of k row)) r.bytes
-        → (look_up k s.entries s.bytes (held_next item k r.entries r.bytes row (held is es ls)) row ≡ Entry i) × (eqb i s.entries ≡ false)
+        → (look_up k s.entries s.bytes (held_next item k r.entries r.bytes row (held is es ls)) row ≡ Some i) × (eqb i s.entries ≡ false)
     looked-again true i p l t w n b =
         let z : i ≡ r.entries = eqb-true i r.entries (sym t) in
-        let o = all_others k r.entries r.bytes (held is es ls) row (l ∙ ap Entry z) in
+        let o = all_others k r.entries r.bytes (held is es ls) row (l ∙ ap Some z) in
         let g = behind k r.entries r.bytes row (w refl) need (λ j q. (o j (omega arith)).0) in
         (rw (n, b, z) (entry-again k r.entries r.bytes (held is es ls) row g p o), ne_eqb i s.entries (λ (q : i ≡ s.entries). omega (arith, q)))
     looked-again false i p l t w n b = rw (n, b) (l, sym t)
@@ -153,29 +151,29 @@ module _ (k : Kind) (row : Row) where
       abbrev keys_after : List ℤ
       keys_after = cond (not joins) (set keys r.runs key) keys
 
-      entry-row-again : presence row ≡ 1 → EntryFound r (held is es ls) keys item joins key → key_step k s held_after keys_after row ≡ Adds false (run_open s) key
+      entry-row-again : presence row ≡ 1 → EntryFound r (held is es ls) keys item joins key → key_step k s held_after keys_after row ≡ adds false (run_open s) key
       entry-row-again p g =
           let l = looked-again item g.place p g.looked g.stored slots entries len in
           let j : joins_key s keys_after (entry_key g.place) ≡ run_open s =
           ap (joins_key s keys_after) (sym g.named) ∙ key-again r s keys key joins g.joined room runs in
-          entry-step-again s held_after keys_after g.place p l.0 l.1 j ∙ ap (Adds false (run_open s)) (sym g.named)
+          entry-step-again s held_after keys_after g.place p l.0 l.1 j ∙ ap (adds false (run_open s)) (sym g.named)
 
-      null-row-again : row ≡ null → Adds item joins key ≡ Adds false (joins_key r keys null_key) null_key → key_step k s held_after keys_after row ≡ Adds false (run_open s) key
+      null-row-again : row ≡ null → adds item joins key ≡ adds false (joins_key r keys null_key) null_key → key_step k s held_after keys_after row ≡ adds false (run_open s) key
       unfolding key_step
       null-row-again n q =
-          let z : key ≡ null_key = cc in
-          let j : joins ≡ joins_key r keys null_key = cc in
-          let a : joins_key s keys_after key ≡ run_open s = key-again r s keys key joins (j ∙ ap (joins_key r keys) (sym z)) room runs in
-          rw n (ap (λ (x : ℤ). Adds false (joins_key s keys_after x) x) (sym z) ∙ ap (λ (b : Bool). Adds false b key) a)
+          let e = adds_same q in
+          let z = e.2 in
+          let a : joins_key s keys_after key ≡ run_open s = key-again r s keys key joins (e.1 ∙ ap (joins_key r keys) (sym z)) room runs in
+          rw n (ap (λ (x : ℤ). adds false (joins_key s keys_after x) x) (sym z) ∙ ap (λ (b : Bool). adds false b key) a)
 
-      pub keys-again : Adds item joins key ≡ key_step k r (held is es ls) keys row → key_step k s held_after keys_after row ≡ Adds false (run_open s) key
+      pub keys-again : adds item joins key ≡ key_step k r (held is es ls) keys row → key_step k s held_after keys_after row ≡ adds false (run_open s) key
       unfolding key_step presence
       keys-again q = go row refl
         where
-          given : presence row ≡ 1 → key_step k s held_after keys_after row ≡ Adds false (run_open s) key
+          given : presence row ≡ 1 → key_step k s held_after keys_after row ≡ adds false (run_open s) key
           given p = entry-row-again p (entry_found r (held is es ls) keys item joins key _ refl (q ∙ value-step r (held is es ls) keys p))
 
-          go : (x : Row) → row ≡ x → key_step k s held_after keys_after row ≡ Adds false (run_open s) key
+          go : (x : Row) → row ≡ x → key_step k s held_after keys_after row ≡ adds false (run_open s) key
           go null e = null-row-again e (q ∙ ap (key_step k r (held is es ls) keys) e)
           go (int v) e = given (ap presence e)
           go (bytes bs) e = given (ap presence e)

@@ -6,8 +6,7 @@ use Rattle.plain.specs.Rows.{Row}
 use Rattle.format.specs.declared.Encoding.{Encoding}
 use Rattle.needs.specs.declared.Counted.{Counted}
 use Rattle.needs.specs.Needs.{disagree}
-use Rattle.step.specs.declared.Step.TheVariants.{Row as Adds}
-use Rattle.step.specs.Steps.{step_of}
+use Rattle.step.specs.Steps.{adds, step_of}
 use Rattle.append.specs.Appending.{Lent, room_of, held_in, Added}
 use Rattle.copies.specs.Copies.{joins_again, stores_again, added_times}
 use Rattle.copies_laws.specs.Singles.{singles}
@@ -34,7 +33,7 @@ AreAppends k e r a n row =
 -- ---- on numbers and areas that an append of the row left, the next append of it finds that it joins its run while that can take one row more; else its item
 -- is stored again, but for an entry; its key is the same
 abbrev pub StepsAgain : Kind → Encoding → Counted → Lent → Row → ℤ → Type 0
-StepsAgain k e r a row key = step_of k e r (held_in a) a.keys row ≡ Adds (stores_again e r) (joins_again e r) key
+StepsAgain k e r a row key = step_of k e r (held_in a) a.keys row ≡ adds (stores_again e r) (joins_again e r) key
 
 -- and the numbers and the areas agree
 abbrev pub FindsAgain : Kind → Encoding → Counted → Lent → Row → ℤ → Type 0

@@ -2,48 +2,33 @@
 #![tactic(auto)]
 
 ghost use Rattle.std.specs.Prelude.{◌≡◌};
+ghost use Rattle.limits.specs.Refusals.{by_number};
 ghost use Rattle.damaged.specs.Taken.{taken_of};
 
 use anatomy::Parts;
 use descriptor::Descriptor;
-use format::{Column, Encoding, Found};
-use limits::refusal;
+use format::Encoding;
+use limits::refusal::Refusal;
 
 // The parts of such a block, or the refusal.
-#[derive(Clone, Copy)]
-pub enum Taken {
-    Whole(Parts),
-    Refused(u8),
-}
-
-pub fn take_damaged(d: Descriptor, block: &[u8]) -> Taken
-    ensures { result ≡ taken_of d block.now }
+pub fn take_damaged(d: Descriptor, block: &[u8]) -> Result<Parts, Refusal>
+    ensures { by_number result ≡ taken_of d block.now }
 {
     if d.zero != 0 {
-        return Taken::Refused(refusal::COLUMN);
+        return Err(Refusal::Column);
     }
-    let column = format::column_of(d.kind, d.encoding, d.width);
-    let Column::Of { kind, encoding } = column else {
-        return Taken::Refused(refusal::COLUMN);
+    let Some(column) = format::column_of(d.kind, d.encoding, d.width) else {
+        return Err(Refusal::Column);
     };
-    let Encoding::Dictionary = encoding else {
-        return Taken::Refused(refusal::COLUMN);
+    let Encoding::Dictionary = column.encoding else {
+        return Err(Refusal::Column);
     };
     if limits::MOST_BYTES < block.len() {
-        return Taken::Refused(refusal::LIMIT);
+        return Err(Refusal::Limit);
     }
     if limits::MOST_ROWS < d.rows {
-        return Taken::Refused(refusal::LIMIT);
+        return Err(Refusal::Limit);
     }
-    let found = format::check_but_keys(kind, d.rows, block);
-    match found {
-        Found::Sound(head) => Taken::Whole(anatomy::take_apart(
-            kind,
-            Encoding::Dictionary,
-            d.rows,
-            block.len(),
-            head,
-        )),
-        Found::Refused(number) => Taken::Refused(number),
-    }
+    let head = format::check_but_keys(column.kind, d.rows, block)?;
+    Ok(anatomy::take_apart(column.kind, Encoding::Dictionary, d.rows, block.len(), head))
 }

@@ -1,7 +1,7 @@
 -- The bytes of a descriptor whose fields have their bits there give that descriptor back. Assumes nothing.
-use Prim.Native.Nat.{ℕ, ◌+◌, ◌*◌, ◌/◌, ◌%◌, ◌<◌, min}
+use Prim.Native.Nat.{ℕ, ◌+◌, ◌*◌, ◌/◌, ◌<◌}
 use native.Mathlib.Omega.{arith}
-use mathlib.Core.Path.{◌≡◌, refl, ap, ◌∙◌}
+use mathlib.Core.Path.{◌≡◌, ap, ◌∙◌}
 use Rattle.encode.specs.Bytes.{high-first, big, number_of}
 use Rattle.encode.proofs.RoundTrip.{number-bytes}
 use Rattle.descriptor.specs.declared.Descriptor.{Descriptor}

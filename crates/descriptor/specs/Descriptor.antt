@@ -1,10 +1,9 @@
 -- 01, "Listing program": the eight descriptor bytes taken apart, put together again, and a block opened by them. Assumes nothing.
-use Rattle.std.specs.Prelude.{ℕ, ◌+◌, ◌*◌, ◌/◌, ◌%◌, min, cond, List, eqb}
+use Rattle.std.specs.Prelude.{ℕ, ◌+◌, ◌*◌, ◌/◌, ◌%◌, min, cond, List, eqb, Result, Err}
 use Rattle.limits.specs.Refusals.{COLUMN}
 use Rattle.encode.specs.Bytes.{high-first, big, number_of}
 use Rattle.format.specs.Opening.{open_number}
-use Rattle.block.specs.declared.Opened.{Opened}
-use Rattle.block.specs.declared.Opened.TheVariants.{Refused}
+use Rattle.block.specs.declared.Reader.{Reader}
 use Rattle.block.specs.Reading.{opened}
 use Rattle.descriptor.specs.declared.Descriptor.{Descriptor}
 
@@ -37,5 +36,5 @@ descriptor_bytes d = big 8 (packed_number d)
 unfoldable pub described_number : Descriptor → List ℕ → ℕ
 described_number d b = cond (eqb d.zero 0) (open_number d.kind d.encoding d.width d.rows b) COLUMN
 
-unfoldable pub described_opened : Descriptor → List ℕ → Opened
-described_opened d b = cond (eqb d.zero 0) (opened d.kind d.encoding d.width d.rows b) (Refused COLUMN)
+unfoldable pub described_opened : Descriptor → List ℕ → Result Reader ℕ
+described_opened d b = cond (eqb d.zero 0) (opened d.kind d.encoding d.width d.rows b) (Err COLUMN)

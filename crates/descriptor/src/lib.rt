@@ -2,11 +2,12 @@
 #![tactic(auto)]
 
 ghost use Rattle.std.specs.Prelude.{◌≡◌, take};
+ghost use Rattle.limits.specs.Refusals.{by_number};
 ghost use Rattle.block.specs.Reading.{opening_of};
 ghost use Rattle.descriptor.specs.Descriptor.{descriptor_of, packed_number, descriptor_bytes, described_opened};
 
-use block::{Opened, Opening};
-use limits::refusal;
+use block::{Opening, Reader};
+use limits::refusal::Refusal;
 
 // The five fields of a descriptor. `zero` is 0 in every descriptor that opens a block.
 #[repr(C)]
@@ -23,7 +24,7 @@ pub struct Descriptor {
 pub fn unpack(bytes: [u8; 8]) -> Descriptor
     ensures { result ≡ descriptor_of (take 8 bytes) }
 {
-    let n = encode::high8(bytes);
+    let n = encode::high::<8>(bytes);
     Descriptor {
         kind: (n / 0x1000_0000_0000_0000) as usize,
         encoding: (n / 0x0200_0000_0000_0000 % 8) as usize,
@@ -37,7 +38,7 @@ pub fn unpack(bytes: [u8; 8]) -> Descriptor
 pub fn pack(d: Descriptor) -> [u8; 8]
     ensures { result ≡ descriptor_bytes d }
 {
-    encode::high_first(packed(d))
+    encode::high_first::<8>(packed(d))
 }
 
 fn packed(d: Descriptor) -> u64
@@ -56,11 +57,11 @@ fn packed(d: Descriptor) -> u64
 }
 
 // The zero bit set counts as opening's 1.
-pub fn open_by(d: Descriptor, block: &[u8]) -> Opened
-    ensures { result ≡ described_opened d block.now }
+pub fn open_by(d: Descriptor, block: &[u8]) -> Result<Reader, Refusal>
+    ensures { by_number result ≡ described_opened d block.now }
 {
     if d.zero != 0 {
-        return Opened::Refused(refusal::COLUMN);
+        return Err(Refusal::Column);
     }
     block::open(d.kind, d.encoding, d.width, d.rows, block)
 }
@@ -69,11 +70,5 @@ pub fn open_by(d: Descriptor, block: &[u8]) -> Opened
 pub fn open_by_number(d: Descriptor, block: &[u8]) -> Opening
     ensures { result ≡ opening_of (described_opened d block.now) }
 {
-    if 0 < d.zero {
-        return Opening {
-            number: refusal::COLUMN,
-            reader: block::no_reader(),
-        };
-    }
-    block::open_by_number(d.kind, d.encoding, d.width, d.rows, block)
+    Opening::from(open_by(d, block))
 }

@@ -11,14 +11,14 @@ pub fn key_len(s: &[u8]) -> u64
     requires { 12 ≤ length s.now }
     ensures { result ≡ key_length s.now }
 {
-    encode::high8(plain::item(s, 0, 8))
+    encode::high::<8>(plain::item(s, 0, 8))
 }
 
 pub fn entries_in(s: &[u8]) -> usize
     requires { 12 ≤ length s.now }
     ensures { (result ≡ entries_in s.now) × (result < 2 ^ 32) }
 {
-    encode::high4(plain::item(s, 8, 4)) as usize
+    encode::high::<4>(plain::item(s, 8, 4)) as usize
 }
 
 // What key `i` names: 0 for null, k + 1 for entry k. A key counts from null's, which is -2^31, so no sign is needed.
@@ -34,12 +34,10 @@ pub fn known(keys: &[u8], n: usize, entries: usize) -> bool
     requires { (n ≤ MOST_ITEMS) × (4 * n ≤ length keys.now) }
     ensures { result ≡ known_keys entries keys.now (places n 0) }
 {
-    let mut i = 0;
-    while i < n {
+    for i in 0..n {
         if entries < slot_at(keys, i) {
             return false;
         }
-        i += 1;
     }
     true
 }

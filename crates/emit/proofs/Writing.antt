@@ -1,4 +1,5 @@
 -- Parts written one behind the other are the parts joined: the room for each, the place behind each, and what the area then holds. Assumes nothing.
+use Rattle.std.specs.Prelude.{Option, Some, None}
 use Prim.Native.Nat.{ℕ, suc, ◌+◌, ◌≤◌, ◌<◌}
 use native.Mathlib.Nat.{add-zero}
 use native.Mathlib.Omega.{arith}
@@ -19,8 +20,6 @@ use Rattle.encode.specs.declared.Kind.TheVariants.{Fixed, Char, Blob}
 use Rattle.encode.specs.contracts.Kind.{the_type}
 use Rattle.encode.proofs.RoundTrip.{length-bytes}
 use Rattle.area.proofs.Laws.{sets-append, over-sets}
-use Rattle.varint.specs.declared.Wrote.{Wrote}
-use Rattle.varint.specs.declared.Wrote.TheVariants.{Bytes, NoRoom}
 use Rattle.varint.specs.Varint.{wrote, wrote_over}
 use Rattle.plain.specs.Plain.{joined}
 use Rattle.nullable.specs.Nullable.{bitmap_length}
@@ -113,7 +112,7 @@ laid-dictionary a b keys entries d p q {behind} {to} {out₁} {out₂} {out₃} 
 
 -- ---- a count where there is room for it
 module _ (vs d : List ℕ) (at : ℕ) (h : at + length vs ≤ length d) where
-  found : wrote d at vs ≡ Bytes (length vs)
+  found : wrote d at vs ≡ Some (length vs)
   unfolding wrote
   found = simp (le-leb _ _ h)
 
@@ -121,21 +120,21 @@ module _ (vs d : List ℕ) (at : ℕ) (h : at + length vs ≤ length d) where
   unfolding wrote_over
   filled = simp (le-leb _ _ h) (sym (over-sets vs d at h))
 
-  module _ {r : Wrote} (e : r ≡ wrote d at vs) where
-    pub laid-never : r ≡ NoRoom → ⊥
+  module _ {r : Option ℕ} (e : r ≡ wrote d at vs) where
+    pub laid-never : r ≡ None → ⊥
     laid-never k = let z : ◌≡◌ {A = ℕ} 0 1 = ap some (sym k ∙ e ∙ found) in omega arith
       where
-        some : Wrote → ℕ
-        some (Bytes n) = 1
-        some NoRoom = 0
+        some : Option ℕ → ℕ
+        some (Some n) = 1
+        some None = 0
 
-    module _ {len : ℕ} (k : r ≡ Bytes len) where
+    module _ {len : ℕ} (k : r ≡ Some len) where
       pub laid-length : len ≡ length vs
       laid-length = ap held (sym k ∙ e ∙ found)
         where
-          held : Wrote → ℕ
-          held (Bytes n) = n
-          held NoRoom = 0
+          held : Option ℕ → ℕ
+          held (Some n) = n
+          held None = 0
 
       pub laid-count : {out : List ℕ} → out ≡ wrote_over d at vs → Laid d at vs (at + len) out
       laid-count q = (ap (λ (n : ℕ). at + n) laid-length, q ∙ filled)

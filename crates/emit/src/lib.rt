@@ -23,7 +23,7 @@ pub fn put_low4(n: usize, out: &mut [u8], at: usize) -> usize
     ensures value { result ≡ at + 4 }
     ensures out_after { out.new ≡ sets out.old at (little 4 n) }
 {
-    area::put(encode::low_first4(n as u64), 4, out, at);
+    area::put(encode::low_first::<4>(n as u64), 4, out, at);
     at + 4
 }
 
@@ -34,10 +34,8 @@ fn write_ends(n: usize, ends: &[u32], out: &mut [u8], at: usize) -> usize
     ensures out_after { out.new ≡ sets out.old at (joined (little 4) (take n ends.now)) }
 {
     let mut to = at;
-    let mut i = 0;
-    while i < n {
+    for i in 0..n {
         to = put_low4(ends[i] as usize, out, to);
-        i += 1;
     }
     to
 }
@@ -134,10 +132,8 @@ pub fn counts_len(n: usize, counts: &[u32]) -> usize
     ensures { (result ≡ length (held_counts n counts.now)) × (result ≤ 5 * MOST_ITEMS) }
 {
     let mut len = 0;
-    let mut i = 0;
-    while i < n {
+    for i in 0..n {
         len += varint::size(counts[i]);
-        i += 1;
     }
     len
 }
@@ -148,8 +144,7 @@ pub fn write_count(value: u32, out: &mut [u8], at: usize) -> usize
     ensures value { result ≡ at + length (spelling value) }
     ensures out_after { out.new ≡ sets out.old at (spelling value) }
 {
-    let wrote = varint::encode_u32(value, out, at);
-    let varint::Wrote::Bytes { len } = wrote else {
+    let Some(len) = varint::encode_u32(value, out, at) else {
         return at;
     };
     at + len
@@ -162,10 +157,8 @@ fn write_counts(n: usize, counts: &[u32], out: &mut [u8], at: usize) -> usize
     ensures out_after { out.new ≡ sets out.old at (held_counts n counts.now) }
 {
     let mut to = at;
-    let mut i = 0;
-    while i < n {
+    for i in 0..n {
         to = write_count(counts[i], out, to);
-        i += 1;
     }
     to
 }
@@ -185,7 +178,7 @@ fn write_runs(n: usize, len: usize, counts: &[u32], out: &mut [u8], at: usize) -
 fn key_bits(key: i32) -> usize
     ensures { result ≡ of_z w32 key }
 {
-    (encode::bits_of(key as i64) % 0x1_0000_0000) as usize
+    ((key as i64).cast_unsigned() % 0x1_0000_0000) as usize
 }
 
 // The first `n` keys.
@@ -195,10 +188,8 @@ fn write_keys(n: usize, keys: &[i32], out: &mut [u8], at: usize) -> usize
     ensures out_after { out.new ≡ sets out.old at (joined (λ (key : ℤ). little 4 (of_z w32 key)) (take n keys.now)) }
 {
     let mut to = at;
-    let mut i = 0;
-    while i < n {
+    for i in 0..n {
         to = put_low4(key_bits(keys[i]), out, to);
-        i += 1;
     }
     to
 }
@@ -283,7 +274,7 @@ pub fn write_dictionary(
         ≡ sets out.old 0 (held_dictionary kind entries len n items.now ends.now counts.now keys.now) }
 {
     let behind = write_key_block(n, size, counts, keys, out, 12);
-    area::put(encode::high_first((behind - 12) as u64), 8, out, 0);
-    area::put(encode::high_first4(entries as u64), 4, out, 8);
+    area::put(encode::high_first::<8>((behind - 12) as u64), 8, out, 0);
+    area::put(encode::high_first::<4>(entries as u64), 4, out, 8);
     write_plain(kind, entries, len, items, ends, out, behind);
 }

@@ -6,7 +6,8 @@ use mathlib.Core.List.{List}
 use lib.IntN.{ℤ}
 use Rattle.encode.specs.declared.Primitive.{Primitive}
 use Rattle.encode.specs.declared.Shape.{Shape}
-use Rattle.encode.specs.declared.FoundKind.{FoundKind}
+use Rattle.std.specs.Prelude.{Option}
+use Rattle.encode.specs.declared.Kind.{Kind}
 use Rattle.encode.specs.Promises.{Encodes, Decodes, Takes, Shaped, Wide, Default, Names}
 
 module _ (k : Primitive) where
@@ -28,5 +29,5 @@ module _ (k : Primitive) where
   pub one-default : (x y : ℤ) → Default k x → Default k y → x ≡ y
   one-default x y p q = p ∙ sym q
 
-pub one-kind : (kind width : ℕ) (x y : FoundKind) → Names kind width x → Names kind width y → x ≡ y
+pub one-kind : (kind width : ℕ) (x y : Option Kind) → Names kind width x → Names kind width y → x ≡ y
 one-kind kind width x y p q = p ∙ sym q

@@ -6,3 +6,4 @@ pub mod ByNumber
 pub mod RoundTrip
 pub mod Shapes
 pub mod Coincide
+pub mod Wide

@@ -1,6 +1,6 @@
 -- 01, "Kinds and encodings": the kinds by number; of a fixed kind its width, the order of its bytes, its default, the integers that it takes, an
 -- item's bytes and an item's value. Assumes nothing.
-use Rattle.std.specs.Prelude.{Bool, true, false, cond, List, ℕ, ◌^◌, ltb, eqb, ℤ, pos, negsuc}
+use Rattle.std.specs.Prelude.{Bool, true, false, cond, List, ℕ, ◌^◌, ltb, eqb, ℤ, pos, negsuc, Option, Some, None}
 use Rattle.std.specs.Int.Signed.{mag}
 use Rattle.std.specs.Int.{Width, w8, w16, w32, w64}
 use mir.Val.{of_z, to_z, bytes, hbits}
@@ -12,8 +12,6 @@ use Rattle.encode.specs.declared.Shape.{Shape}
 use Rattle.encode.specs.declared.Shape.TheVariants.{Bool as BoolShape, Low2, Low4, Low8, High4, High8}
 use Rattle.encode.specs.declared.Kind.{Kind}
 use Rattle.encode.specs.declared.Kind.TheVariants.{Fixed, Char, Blob}
-use Rattle.encode.specs.declared.FoundKind.{FoundKind}
-use Rattle.encode.specs.declared.FoundKind.TheVariants.{Known, Unknown}
 
 -- ---- the fixed kinds: a table of the shapes that items have, and one of the kinds
 pub data Reading : Type 0 where
@@ -34,6 +32,10 @@ laid_as Low4 = lays w32 low_first signed
 laid_as Low8 = lays w64 low_first signed
 laid_as High4 = lays w32 high-first signed
 laid_as High8 = lays w64 high-first signed
+
+-- the bytes of an item of a shape
+abbrev pub wide_as : Shape → ℕ
+wide_as s = bytes (laid_as s).size
 
 abbrev pub shape_of : Primitive → Shape
 shape_of Boolean = BoolShape
@@ -104,21 +106,21 @@ holds_text (Char w) = true
 holds_text (Blob text) = text
 
 -- ---- the kinds by number; the width is 0 for every kind but char
-unfoldable pub numbered : ℕ → FoundKind
+unfoldable pub numbered : ℕ → Option Kind
 numbered k =
-    cond (eqb k 0) (Known (Fixed Boolean))
-    (cond (eqb k 1) (Known (Fixed I16))
-    (cond (eqb k 2) (Known (Fixed I32))
-    (cond (eqb k 3) (Known (Fixed I64))
-    (cond (eqb k 4) (Known (Fixed Date))
-    (cond (eqb k 5) (Known (Fixed Timestamp))
-    (cond (eqb k 6) (Known (Fixed TimestampTz))
-    (cond (eqb k 7) (Known (Fixed Interval))
-    (cond (eqb k 9) (Known blob)
-    (cond (eqb k 10) (Known string)
-    (cond (eqb k 11) (Known (Fixed F64)) Unknown))))))))))
+    cond (eqb k 0) (Some (Fixed Boolean))
+    (cond (eqb k 1) (Some (Fixed I16))
+    (cond (eqb k 2) (Some (Fixed I32))
+    (cond (eqb k 3) (Some (Fixed I64))
+    (cond (eqb k 4) (Some (Fixed Date))
+    (cond (eqb k 5) (Some (Fixed Timestamp))
+    (cond (eqb k 6) (Some (Fixed TimestampTz))
+    (cond (eqb k 7) (Some (Fixed Interval))
+    (cond (eqb k 9) (Some blob)
+    (cond (eqb k 10) (Some string)
+    (cond (eqb k 11) (Some (Fixed F64)) None))))))))))
 
-unfoldable pub kind_of : ℕ → ℕ → FoundKind
+unfoldable pub kind_of : ℕ → ℕ → Option Kind
 kind_of k w =
-    cond (eqb k 8) (cond (eqb w 0) Unknown (cond (ltb MOST_WIDTH w) Unknown (Known (Char w))))
-    (cond (eqb w 0) (numbered k) Unknown)
+    cond (eqb k 8) (cond (eqb w 0) None (cond (ltb MOST_WIDTH w) None (Some (Char w))))
+    (cond (eqb w 0) (numbered k) None)

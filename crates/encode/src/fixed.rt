@@ -1,260 +1,208 @@
-// The fixed kinds, as encode.rs has them: a type for each with its width, its default, encode and decode.
-ghost use Rattle.encode.specs.Promises.{Encodes, Decodes, Takes};
+// The fixed kinds as types, one for each shape that items have. Kinds that are laid out alike share one.
+ghost use Rattle.std.specs.Prelude.{◌≡◌, ℕ, refl};
+ghost use Rattle.encode.specs.declared.Shape.{Shape};
+ghost use Rattle.encode.specs.Kinds.{wide_as};
+ghost use Rattle.encode.specs.Promises.{EncodesAs, DecodesAs, TakesAs};
 
-use crate::{
-    Primitive, bits_of, high_first, high_first4, high4, high8, low_first, low_first1, low_first2,
-    low_first4, low2, low4, low8, mag_of, of_bits, of_bits16, of_bits32,
-};
+use super::{high, high_first, low, low_first};
 
-// bool: one byte, 0 or 1; any nonzero byte reads as true.
+// A value is carried as an i64. An encoded item is passed whole, as eight bytes of which the unused ones are 0.
+pub trait FixedKind {
+    ghost shape: { Shape };
+
+    ghost WIDTH: { ℕ };
+
+    const WIDTH: usize;
+
+    // What a plain block stores for a null.
+    const DEFAULT_VALUE: i64;
+
+    fn encode(v: i64) -> [u8; 8]
+        ensures { EncodesAs shape v result };
+
+    fn decode(item: [u8; 8]) -> i64
+        ensures { DecodesAs shape item result };
+
+    // Whether v is an integer of the kind.
+    fn takes(v: i64) -> bool
+        ensures { TakesAs shape v result };
+
+    ghost wide: { WIDTH ≡ wide_as shape };
+}
+
+// One byte, 0 or 1. Any other byte reads as true.
 #[derive(Clone, Copy)]
 pub struct BoolKind {}
 
-impl BoolKind {
-    pub const WIDTH: usize = 1;
+impl FixedKind for BoolKind {
+    ghost shape = { Shape.Bool };
 
-    pub const DEFAULT_VALUE: i64 = 0;
+    ghost WIDTH = { 1 };
 
-    pub fn encode(v: i64) -> [u8; 8]
-        ensures { Encodes Primitive.Bool v result }
-    {
-        low_first1(bits_of(v))
+    const WIDTH: usize = 1;
+
+    const DEFAULT_VALUE: i64 = 0;
+
+    fn encode(v: i64) -> [u8; 8] {
+        low_first::<1>(v.cast_unsigned())
     }
 
-    pub fn decode(item: [u8; 8]) -> i64
-        ensures { Decodes Primitive.Bool item result }
-    {
+    fn decode(item: [u8; 8]) -> i64 {
         if item[0] == 0 { 0 } else { 1 }
     }
 
-    pub fn takes(v: i64) -> bool
-        ensures { Takes Primitive.Bool v result }
-    {
-        bits_of(v) < 2
+    fn takes(v: i64) -> bool {
+        v == 0 || v == 1
     }
+
+    ghost wide = { refl };
 }
 
 // i16, little-endian.
 #[derive(Clone, Copy)]
 pub struct I16Kind {}
 
-impl I16Kind {
-    pub const WIDTH: usize = 2;
+impl FixedKind for I16Kind {
+    ghost shape = { Shape.Low2 };
 
-    pub const DEFAULT_VALUE: i64 = 0;
+    ghost WIDTH = { 2 };
 
-    pub fn encode(v: i64) -> [u8; 8]
-        ensures { Encodes Primitive.I16 v result }
-    {
-        low_first2(bits_of(v))
+    const WIDTH: usize = 2;
+
+    const DEFAULT_VALUE: i64 = 0;
+
+    fn encode(v: i64) -> [u8; 8] {
+        low_first::<2>(v.cast_unsigned())
     }
 
-    pub fn decode(item: [u8; 8]) -> i64
-        ensures { Decodes Primitive.I16 item result }
-    {
-        of_bits16(low2(item))
+    fn decode(item: [u8; 8]) -> i64 {
+        i64::from((low::<2>(item) as u16).cast_signed())
     }
 
-    pub fn takes(v: i64) -> bool
-        ensures { Takes Primitive.I16 v result }
-    {
-        mag_of(v) < 0x8000
+    fn takes(v: i64) -> bool {
+        i16::try_from(v).is_ok()
     }
+
+    ghost wide = { refl };
 }
 
 // i32, little-endian.
 #[derive(Clone, Copy)]
 pub struct I32Kind {}
 
-impl I32Kind {
-    pub const WIDTH: usize = 4;
+impl FixedKind for I32Kind {
+    ghost shape = { Shape.Low4 };
 
-    pub const DEFAULT_VALUE: i64 = 0;
+    ghost WIDTH = { 4 };
 
-    pub fn encode(v: i64) -> [u8; 8]
-        ensures { Encodes Primitive.I32 v result }
-    {
-        low_first4(bits_of(v))
+    const WIDTH: usize = 4;
+
+    const DEFAULT_VALUE: i64 = 0;
+
+    fn encode(v: i64) -> [u8; 8] {
+        low_first::<4>(v.cast_unsigned())
     }
 
-    pub fn decode(item: [u8; 8]) -> i64
-        ensures { Decodes Primitive.I32 item result }
-    {
-        of_bits32(low4(item))
+    fn decode(item: [u8; 8]) -> i64 {
+        i64::from((low::<4>(item) as u32).cast_signed())
     }
 
-    pub fn takes(v: i64) -> bool
-        ensures { Takes Primitive.I32 v result }
-    {
-        mag_of(v) < 0x8000_0000
+    fn takes(v: i64) -> bool {
+        i32::try_from(v).is_ok()
     }
+
+    ghost wide = { refl };
 }
 
 // i64, little-endian.
 #[derive(Clone, Copy)]
 pub struct I64Kind {}
 
-impl I64Kind {
-    pub const WIDTH: usize = 8;
+impl FixedKind for I64Kind {
+    ghost shape = { Shape.Low8 };
 
-    pub const DEFAULT_VALUE: i64 = 0;
+    ghost WIDTH = { 8 };
 
-    pub fn encode(v: i64) -> [u8; 8]
-        ensures { Encodes Primitive.I64 v result }
-    {
-        low_first(bits_of(v))
+    const WIDTH: usize = 8;
+
+    const DEFAULT_VALUE: i64 = 0;
+
+    fn encode(v: i64) -> [u8; 8] {
+        low_first::<8>(v.cast_unsigned())
     }
 
-    pub fn decode(item: [u8; 8]) -> i64
-        ensures { Decodes Primitive.I64 item result }
-    {
-        of_bits(low8(item))
+    fn decode(item: [u8; 8]) -> i64 {
+        low::<8>(item).cast_signed()
     }
 
-    pub fn takes(v: i64) -> bool
-        ensures { Takes Primitive.I64 v result }
-    {
-        mag_of(v) < 0x8000_0000_0000_0000
+    fn takes(_v: i64) -> bool {
+        true
     }
+
+    ghost wide = { refl };
 }
 
 // Days as an i32, big-endian.
 #[derive(Clone, Copy)]
 pub struct DateKind {}
 
-impl DateKind {
-    pub const WIDTH: usize = 4;
+impl FixedKind for DateKind {
+    ghost shape = { Shape.High4 };
 
-    pub const DEFAULT_VALUE: i64 = 0;
+    ghost WIDTH = { 4 };
 
-    pub fn encode(v: i64) -> [u8; 8]
-        ensures { Encodes Primitive.Date v result }
-    {
-        high_first4(bits_of(v))
+    const WIDTH: usize = 4;
+
+    const DEFAULT_VALUE: i64 = 0;
+
+    fn encode(v: i64) -> [u8; 8] {
+        high_first::<4>(v.cast_unsigned())
     }
 
-    pub fn decode(item: [u8; 8]) -> i64
-        ensures { Decodes Primitive.Date item result }
-    {
-        of_bits32(high4(item))
+    fn decode(item: [u8; 8]) -> i64 {
+        i64::from((high::<4>(item) as u32).cast_signed())
     }
 
-    pub fn takes(v: i64) -> bool
-        ensures { Takes Primitive.Date v result }
-    {
-        mag_of(v) < 0x8000_0000
+    fn takes(v: i64) -> bool {
+        i32::try_from(v).is_ok()
     }
+
+    ghost wide = { refl };
 }
 
 // Microseconds as an i64, big-endian.
 #[derive(Clone, Copy)]
 pub struct TimestampKind {}
 
-impl TimestampKind {
-    pub const WIDTH: usize = 8;
+impl FixedKind for TimestampKind {
+    ghost shape = { Shape.High8 };
 
-    pub const DEFAULT_VALUE: i64 = 0;
+    ghost WIDTH = { 8 };
 
-    pub fn encode(v: i64) -> [u8; 8]
-        ensures { Encodes Primitive.Timestamp v result }
-    {
-        high_first(bits_of(v))
+    const WIDTH: usize = 8;
+
+    const DEFAULT_VALUE: i64 = 0;
+
+    fn encode(v: i64) -> [u8; 8] {
+        high_first::<8>(v.cast_unsigned())
     }
 
-    pub fn decode(item: [u8; 8]) -> i64
-        ensures { Decodes Primitive.Timestamp item result }
-    {
-        of_bits(high8(item))
+    fn decode(item: [u8; 8]) -> i64 {
+        high::<8>(item).cast_signed()
     }
 
-    pub fn takes(v: i64) -> bool
-        ensures { Takes Primitive.Timestamp v result }
-    {
-        mag_of(v) < 0x8000_0000_0000_0000
+    fn takes(_v: i64) -> bool {
+        true
     }
+
+    ghost wide = { refl };
 }
 
-// The same with a time zone.
-#[derive(Clone, Copy)]
-pub struct TimestampTzKind {}
-
-impl TimestampTzKind {
-    pub const WIDTH: usize = 8;
-
-    pub const DEFAULT_VALUE: i64 = 0;
-
-    pub fn encode(v: i64) -> [u8; 8]
-        ensures { Encodes Primitive.TimestampTz v result }
-    {
-        high_first(bits_of(v))
-    }
-
-    pub fn decode(item: [u8; 8]) -> i64
-        ensures { Decodes Primitive.TimestampTz item result }
-    {
-        of_bits(high8(item))
-    }
-
-    pub fn takes(v: i64) -> bool
-        ensures { Takes Primitive.TimestampTz v result }
-    {
-        mag_of(v) < 0x8000_0000_0000_0000
-    }
-}
+// Microseconds with a time zone.
+pub type TimestampTzKind = TimestampKind;
 
 // Months, then days, each an i32, big-endian; carried as months times 2^32 plus days modulo 2^32.
-#[derive(Clone, Copy)]
-pub struct IntervalKind {}
-
-impl IntervalKind {
-    pub const WIDTH: usize = 8;
-
-    pub const DEFAULT_VALUE: i64 = 0;
-
-    pub fn encode(v: i64) -> [u8; 8]
-        ensures { Encodes Primitive.Interval v result }
-    {
-        high_first(bits_of(v))
-    }
-
-    pub fn decode(item: [u8; 8]) -> i64
-        ensures { Decodes Primitive.Interval item result }
-    {
-        of_bits(high8(item))
-    }
-
-    pub fn takes(v: i64) -> bool
-        ensures { Takes Primitive.Interval v result }
-    {
-        mag_of(v) < 0x8000_0000_0000_0000
-    }
-}
+pub type IntervalKind = TimestampKind;
 
 // The bits of an f64, little-endian: each i64 is those of one, and rows are equal exactly when their bits are.
-#[derive(Clone, Copy)]
-pub struct F64Kind {}
-
-impl F64Kind {
-    pub const WIDTH: usize = 8;
-
-    // +0.0
-    pub const DEFAULT_VALUE: i64 = 0;
-
-    pub fn encode(v: i64) -> [u8; 8]
-        ensures { Encodes Primitive.F64 v result }
-    {
-        low_first(bits_of(v))
-    }
-
-    pub fn decode(item: [u8; 8]) -> i64
-        ensures { Decodes Primitive.F64 item result }
-    {
-        of_bits(low8(item))
-    }
-
-    pub fn takes(v: i64) -> bool
-        ensures { Takes Primitive.F64 v result }
-    {
-        mag_of(v) < 0x8000_0000_0000_0000
-    }
-}
+pub type F64Kind = I64Kind;

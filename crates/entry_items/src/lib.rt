@@ -30,7 +30,7 @@ fn put_char(w: usize, n: usize, items: &[u8], slot: usize, out: &mut [u8], at: u
 {
     let text = source::char_of(w, n, items, slot);
     area::copy(items, text.from, text.len, out, at);
-    area::fill_bytes(out, at + text.len, w - text.len, 0);
+    area::fill(out, at + text.len, w - text.len, 0);
 }
 
 pub fn put_item(kind: Kind, n: usize, items: &[u8], slot: usize, out: &mut [u8], at: usize) -> usize

@@ -10,13 +10,12 @@ use Rattle.encode.proofs.Bools.{clash}
 use Rattle.plain.specs.Rows.{Row}
 use Rattle.format.specs.declared.Encoding.{Encoding}
 use Rattle.format.specs.declared.Encoding.TheVariants.{Plain, Nullable, RunLength, RunLengthNullable, Dictionary}
-use Rattle.format.specs.declared.Column.TheVariants.{Of}
-use Rattle.format.specs.Blocks.{column_of, block_of}
+use Rattle.format.specs.Blocks.{column_of, block_of, column}
 use Rattle.format.specs.Sizes.{estimate_of, stored_items}
 use Rattle.needs.specs.Needs.{coded}
 use Rattle.append.specs.Appending.{Lent}
 use Rattle.builder.specs.declared.Builder.{Builder}
-use Rattle.builder.specs.declared.Created.TheVariants.{New}
+use Rattle.std.specs.Prelude.{Ok, Some}
 use Rattle.builder.specs.declared.Finished.{Finished}
 use Rattle.builder.specs.Building.{created}
 use Rattle.builder.specs.Finishing.{finished, estimated_as, estimated}
@@ -55,8 +54,8 @@ module _ (k : Kind) (e : Encoding) (rows : List Row) where
   least-by-runs h some = omega (arith, at_least k e rows h some, items-are-runs e rows h)
 
 -- ---- from the creation on
-module _ (kind encoding width target key : ℕ) (k : Kind) (e : Encoding) (column : column_of kind encoding width ≡ Of k e)
-    (r : Builder) (new : created kind encoding width target key ≡ New r) (cs : List Call) (carried : Carried k e r cs) (a : Lent) where
+module _ (kind encoding width target key : ℕ) (k : Kind) (e : Encoding) (column : column_of kind encoding width ≡ Some (column k e))
+    (r : Builder) (new : created kind encoding width target key ≡ Ok r) (cs : List Call) (carried : Carried k e r cs) (a : Lent) where
   abbrev rows : List Row
   rows = accepted_in k e [] cs
 

@@ -9,6 +9,7 @@ use lib.IntN.{ℤ}
 use lib.ListN.{length, length-map}
 use lib.Seq.{sets}
 use borrow.Author.Tests.{lt-ltb, le-ltb, ltb-true, ltb-false}
+use Rattle.std.specs.Prelude.{Result, Ok}
 use Rattle.limits.specs.Limits.{MOST_GIVEN}
 use Rattle.limits.specs.Refusals.{ROOM}
 use Rattle.area.specs.Area.{over}
@@ -17,21 +18,20 @@ use Rattle.encode.proofs.Bools.{or-none}
 use Rattle.encode.specs.declared.Primitive.{Primitive}
 use Rattle.encode.specs.declared.Kind.{Kind}
 use Rattle.encode.specs.declared.Kind.TheVariants.{Fixed, Char, Blob}
-use Rattle.plain.specs.Rows.{Row, bytes, int_in, bytes_in}
-use Rattle.plain.specs.Plain.{all_of, places, joined, ends_from}
+use Rattle.plain.specs.Rows.{Row, int_in, bytes_in}
+use Rattle.plain.specs.Plain.{joined, ends_from}
 use Rattle.nullable.specs.Nullable.{presence}
 use Rattle.rle.specs.declared.Spot.{Spot}
-use Rattle.rle.specs.Stepping.{rows}
 use Rattle.source.specs.declared.Source.{Source}
 use Rattle.source.specs.Rows.{row_by, text_by, size_by, int_by, flag_by, sum_of, capped, Texts}
 use Rattle.source.proofs.Folds.{length-joined, length-ends}
 use Rattle.anatomy.specs.declared.Parts.{Parts}
 use Rattle.anatomy.specs.Parts.{marks_in, items_in}
-use Rattle.part_rows.specs.PartRows.{steps_by, places_in, row_in, good_in, size_in, value_in, flag_in, text_in, values_given, flags_given, ends_given, bytes_given, weight_given}
+use Rattle.part_rows.specs.PartRows.{steps_by, places_in, row_in, size_in, value_in, flag_in, text_in, values_given, flags_given, ends_given, bytes_given, weight_given}
 use Rattle.part_rows.proofs.Places.{Read, runs-are, length-steps}
 use Rattle.fill.specs.declared.Filled.{Filled}
 use Rattle.fill.specs.Areas.{Areas, areas, is_bytes, short, filled_in, given_bytes}
-use Rattle.fill.specs.Filling.{Filling, refused_filling, next_by, write_rows, filling_by, filling}
+use Rattle.fill.specs.Filling.{Filling, filled, refused_filling, next_by, write_rows, filling_by, filling}
 
 -- ---- rows from what their parts say
 map-map :
@@ -62,16 +62,16 @@ module _ (s : Source) (marks items : List ℕ) where
   size-by i = refl
 
 -- ---- rows that are there and good, written
-write-short : (k : Kind) (from : Spot) (rs : List Row) (t : Spot) (a : Areas) → short k rs a ≡ true → refused_filling ROOM from a ≡ write_rows k from rs t a
+write-short : (k : Kind) (rs : List Row) (t : Spot) (a : Areas) → short k rs a ≡ true → refused_filling ROOM a ≡ write_rows k rs t a
 unfolding write_rows
-write-short k from rs t a h = rw h
+write-short k rs t a h = rw h
 
 abbrev pub written : Kind → List Row → Spot → Areas → Filling
-written k rs t a = record { answer = record { number = 0; bytes = given_bytes k rs; next = t }; areas = filled_in k rs a }
+written k rs t a = record { answer = Ok (filled (given_bytes k rs) t); areas = filled_in k rs a }
 
-write_done : (k : Kind) (from : Spot) (rs : List Row) (t : Spot) (a : Areas) → short k rs a ≡ false → written k rs t a ≡ write_rows k from rs t a
+write_done : (k : Kind) (rs : List Row) (t : Spot) (a : Areas) → short k rs a ≡ false → written k rs t a ≡ write_rows k rs t a
 unfolding write_rows
-write_done k from rs t a h = rw h
+write_done k rs t a h = rw h
 
 or_left : (x y : Bool) → x ≡ true → (x || y) ≡ true
 or_left x y h = rw h
@@ -101,16 +101,16 @@ front : {A : Type 0} (d vs : List A) (n : ℕ) → length vs ≡ n → n ≤ len
 front d vs n e h = over-sets vs d 0 (omega arith)
 
 -- an answer that is known, with the areas of its kind
-abbrev pub FixedTold : Filled → List ℤ → List ℕ → Filling → Type 0
+abbrev pub FixedTold : Result Filled ℕ → List ℤ → List ℕ → Filling → Type 0
 FixedTold g vs fs y = (g ≡ y.answer) × ((vs ≡ y.areas.values) × (fs ≡ y.areas.flags))
 
-abbrev pub TextTold : Filled → List ℕ → List ℕ → List ℕ → Filling → Type 0
+abbrev pub TextTold : Result Filled ℕ → List ℕ → List ℕ → List ℕ → Filling → Type 0
 TextTold g fs es bs y = (g ≡ y.answer) × ((fs ≡ y.areas.flags) × ((es ≡ y.areas.ends) × (bs ≡ y.areas.bytes)))
 
-pub fixed_told : {x y : Filling} (g : Filled) → g ≡ x.answer → x ≡ y → FixedTold g x.areas.values x.areas.flags y
+pub fixed_told : {x y : Filling} (g : Result Filled ℕ) → g ≡ x.answer → x ≡ y → FixedTold g x.areas.values x.areas.flags y
 fixed_told g h e = (h ∙ ap (λ (z : Filling). z.answer) e, (ap (λ (z : Filling). z.areas.values) e, ap (λ (z : Filling). z.areas.flags) e))
 
-pub text-told : {x y : Filling} (g : Filled) → g ≡ x.answer → x ≡ y → TextTold g x.areas.flags x.areas.ends x.areas.bytes y
+pub text-told : {x y : Filling} (g : Result Filled ℕ) → g ≡ x.answer → x ≡ y → TextTold g x.areas.flags x.areas.ends x.areas.bytes y
 text-told g h e =
     let a : (z : Filling) → Areas = λ z. z.areas in
     (h ∙ ap (λ (z : Filling). z.answer) e, (ap (λ z. (a z).flags) e, (ap (λ z. (a z).ends) e, ap (λ z. (a z).bytes) e)))
@@ -134,7 +134,7 @@ module _ {p : Parts} {from : Spot} {b : List ℕ} {n : ℕ} {is : List ℕ} {t :
   runs : places_in p from b n ≡ is
   runs = runs-are (steps_by p from b n) read.steps
 
-  of-rows : (a : Areas) → write_rows k from rs at a ≡ filling p from b n a
+  of-rows : (a : Areas) → write_rows k rs at a ≡ filling p from b n a
   unfolding filling_by
   of-rows a = rw read.steps (rw read.right refl)
 
@@ -180,36 +180,36 @@ module _ {p : Parts} {from : Spot} {b : List ℕ} {n : ℕ} {is : List ℕ} {t :
       ∙ ap (over d 0) (sym said)
 
   module _ (a : Areas) where
-    pub flags-short : length a.flags < n → refused_filling ROOM from a ≡ filling p from b n a
+    pub flags-short : length a.flags < n → refused_filling ROOM a ≡ filling p from b n a
     unfolding short
-    flags-short h = write-short k from rs at a (or_left (ltb (length a.flags) (length rs)) _ (rw long (lt-ltb _ _ h))) ∙ of-rows a
+    flags-short h = write-short k rs at a (or_left (ltb (length a.flags) (length rs)) _ (rw long (lt-ltb _ _ h))) ∙ of-rows a
 
     module _ (fixed : is_bytes p.source.kind ≡ false) where
       short-fixed : short k rs a ≡ (ltb (length a.flags) n || ltb (length a.values) n)
       unfolding short
       short-fixed = rw (fixed, long)
 
-      pub values-short : length a.values < n → refused_filling ROOM from a ≡ filling p from b n a
-      values-short h = write-short k from rs at a (short-fixed ∙ or_right (ltb (length a.flags) n) _ (lt-ltb _ _ h)) ∙ of-rows a
+      pub values-short : length a.values < n → refused_filling ROOM a ≡ filling p from b n a
+      values-short h = write-short k rs at a (short-fixed ∙ or_right (ltb (length a.flags) n) _ (lt-ltb _ _ h)) ∙ of-rows a
 
       pub values-written :
           (next : Spot) → next ≡ next_by p.source.coded from t → {vs : List ℤ} {fs : List ℕ} → n ≤ length a.values → n ≤ length a.flags
           → vs ≡ sets a.values 0 (values_given p from b n) → fs ≡ sets a.flags 0 (flags_given p from b n)
-          → FixedTold (record { number = 0; bytes = 0; next = next }) vs fs (filling p from b n a)
+          → FixedTold (Ok (filled 0 next)) vs fs (filling p from b n a)
       unfolding filled_in given_bytes
       values-written next on {vs} {fs} hv hf ev ef =
           let v : vs ≡ over a.values 0 (map int_in rs) = values-are a.values hv ev in
           let f : fs ≡ over a.flags 0 (map presence rs) = flags-are a.flags hf ef in
-          let w = write_done k from rs at a (short-fixed ∙ or-none (le-ltb _ _ hf) (le-ltb _ _ hv)) ∙ of-rows a in
+          let w = write_done k rs at a (short-fixed ∙ or-none (le-ltb _ _ hf) (le-ltb _ _ hv)) ∙ of-rows a in
           rw (v, f, on) (alike w)
         where
           alike : written k rs at a ≡ filling p from b n a
-              → FixedTold (record { number = 0; bytes = 0; next = at }) (over a.values 0 (map int_in rs)) (over a.flags 0 (map presence rs))
+              → FixedTold (Ok (filled 0 at)) (over a.values 0 (map int_in rs)) (over a.flags 0 (map presence rs))
               (filling p from b n a)
           alike q =
               fixed_told
               {x = record {
-                answer = record { number = 0; bytes = 0; next = at };
+                answer = Ok (filled 0 at);
                 areas = areas (over a.values 0 (map int_in rs)) (over a.flags 0 (map presence rs)) a.ends a.bytes;
               }}
               _ refl (rw fixed at q)
@@ -222,16 +222,16 @@ module _ {p : Parts} {from : Spot} {b : List ℕ} {n : ℕ} {is : List ℕ} {t :
       unfolding short
       short-texts = rw (texts, long)
 
-      refused-texts : lacking ≡ true → refused_filling ROOM from a ≡ filling p from b n a
-      refused-texts h = write-short k from rs at a (short-texts ∙ or_right (ltb (length a.flags) n) _ h) ∙ of-rows a
+      refused-texts : lacking ≡ true → refused_filling ROOM a ≡ filling p from b n a
+      refused-texts h = write-short k rs at a (short-texts ∙ or_right (ltb (length a.flags) n) _ h) ∙ of-rows a
 
-      pub ends-short : length a.ends < n → refused_filling ROOM from a ≡ filling p from b n a
+      pub ends-short : length a.ends < n → refused_filling ROOM a ≡ filling p from b n a
       ends-short h =
           refused-texts
           (or_left (ltb (length a.ends) n || ltb (length a.bytes) bytes-all) _ (or_left (ltb (length a.ends) n) _ (lt-ltb _ _ h)))
 
       module _ (w : ℕ) (weight : w ≡ capped (sum_of (size_in p b) is)) where
-        pub bytes-short : length a.bytes < w → refused_filling ROOM from a ≡ filling p from b n a
+        pub bytes-short : length a.bytes < w → refused_filling ROOM a ≡ filling p from b n a
         bytes-short h =
             let c = capped-below (sum_of (size_in p b) is) in
             let z = total in
@@ -239,7 +239,7 @@ module _ {p : Parts} {from : Spot} {b : List ℕ} {n : ℕ} {is : List ℕ} {t :
             refused-texts
             (or_left (ltb (length a.ends) n || ltb (length a.bytes) bytes-all) _ (or_right (ltb (length a.ends) n) _ (lt-ltb _ _ q)))
 
-        pub total-high : MOST_GIVEN < w → refused_filling ROOM from a ≡ filling p from b n a
+        pub total-high : MOST_GIVEN < w → refused_filling ROOM a ≡ filling p from b n a
         total-high h =
             let c = capped-below (sum_of (size_in p b) is) in
             let z = total in
@@ -254,7 +254,7 @@ module _ {p : Parts} {from : Spot} {b : List ℕ} {n : ℕ} {is : List ℕ} {t :
             (next : Spot) → next ≡ next_by p.source.coded from t → {fs es bs : List ℕ} → n ≤ length a.flags → n ≤ length a.ends
             → w ≤ length a.bytes → w ≤ MOST_GIVEN → fs ≡ sets a.flags 0 (flags_given p from b n) → es ≡ sets a.ends 0 (ends_given p from b n)
             → bs ≡ sets a.bytes 0 (bytes_given p from b n)
-            → TextTold (record { number = 0; bytes = w; next = next }) fs es bs (filling p from b n a)
+            → TextTold (Ok (filled w next)) fs es bs (filling p from b n a)
         unfolding filled_in given_bytes
         texts-written next on {fs} {es} {bs} hf he hb hw ef ee eb =
             let sum : w ≡ bytes-all = weight_is hw in
@@ -264,15 +264,15 @@ module _ {p : Parts} {from : Spot} {b : List ℕ} {n : ℕ} {is : List ℕ} {t :
             let e : es ≡ over a.ends 0 (ends_from 0 (map bytes_in rs)) = ends-are a.ends he ee in
             let y : bs ≡ over a.bytes 0 (joined bytes_in rs) = bytes-are a.bytes hb' eb in
             let room = short-texts ∙ or-none (le-ltb _ _ hf) (or-none (or-none (le-ltb _ _ he) (le-ltb _ _ hb')) (le-ltb _ _ hw')) in
-            rw (f, e, y, on, sum) (alike (write_done k from rs at a room ∙ of-rows a))
+            rw (f, e, y, on, sum) (alike (write_done k rs at a room ∙ of-rows a))
           where
             alike : written k rs at a ≡ filling p from b n a
-                → TextTold (record { number = 0; bytes = bytes-all; next = at }) (over a.flags 0 (map presence rs))
+                → TextTold (Ok (filled bytes-all at)) (over a.flags 0 (map presence rs))
                 (over a.ends 0 (ends_from 0 (map bytes_in rs))) (over a.bytes 0 (joined bytes_in rs)) (filling p from b n a)
             alike q =
                 text-told
                 {x = record {
-                  answer = record { number = 0; bytes = bytes-all; next = at };
+                  answer = Ok (filled bytes-all at);
                   areas = record {
                     values = a.values;
                     flags = over a.flags 0 (map presence rs);

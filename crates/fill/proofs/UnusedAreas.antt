@@ -6,6 +6,7 @@ use mathlib.Core.List.{List, [], ◌∷◌, map}
 use types.Run.{OneOf, miss}
 use denote.Enum.Declared.{tag_of}
 use lib.IntN.{ℤ}
+use Rattle.std.specs.Prelude.{Result}
 use Rattle.limits.specs.Refusals.{ROOM, DISAGREE}
 use Rattle.encode.specs.contracts.Kind.{the_type}
 use Rattle.encode.specs.declared.Kind.{Kind}
@@ -40,7 +41,7 @@ either-values :
 either-values true u v u' v' vs p q = p
 either-values false u v u' v' vs p q = q
 
-module _ (k : Kind) (from : Spot) (rs : List Row) (t : Spot) (vs : List ℤ) (fs es bs : List ℕ) where
+module _ (k : Kind) (rs : List Row) (t : Spot) (vs : List ℤ) (fs es bs : List ℕ) where
   short-fixed : is_bytes k ≡ false → short k rs (areas vs fs es bs) ≡ short k rs (areas vs fs [] [])
   unfolding short
   short-fixed h = rw h
@@ -49,13 +50,13 @@ module _ (k : Kind) (from : Spot) (rs : List Row) (t : Spot) (vs : List ℤ) (fs
   unfolding filled_in
   written-fixed h = rw h
 
-  write-fixed : is_bytes k ≡ false → write_rows k from rs t (areas vs fs es bs) ≡ with_texts (write_rows k from rs t (areas vs fs [] [])) es bs
+  write-fixed : is_bytes k ≡ false → write_rows k rs t (areas vs fs es bs) ≡ with_texts (write_rows k rs t (areas vs fs [] [])) es bs
   unfolding write_rows
   write-fixed h =
-      let u = refused_filling ROOM from (areas vs fs es bs) in
+      let u = refused_filling ROOM (areas vs fs es bs) in
       let v = written k rs t (areas vs fs es bs) in
       ap (λ (x : Bool). cond x u v) (short-fixed h)
-      ∙ either-texts (short k rs (areas vs fs [] [])) u v (refused_filling ROOM from (areas vs fs [] [])) (written k rs t (areas vs fs [] [])) es bs refl
+      ∙ either-texts (short k rs (areas vs fs [] [])) u v (refused_filling ROOM (areas vs fs [] [])) (written k rs t (areas vs fs [] [])) es bs refl
       (written-fixed h)
 
   short-texts : is_bytes k ≡ true → short k rs (areas vs fs es bs) ≡ short k rs (areas [] fs es bs)
@@ -66,13 +67,13 @@ module _ (k : Kind) (from : Spot) (rs : List Row) (t : Spot) (vs : List ℤ) (fs
   unfolding filled_in
   written-texts h = rw h
 
-  write-texts : is_bytes k ≡ true → write_rows k from rs t (areas vs fs es bs) ≡ with_values (write_rows k from rs t (areas [] fs es bs)) vs
+  write-texts : is_bytes k ≡ true → write_rows k rs t (areas vs fs es bs) ≡ with_values (write_rows k rs t (areas [] fs es bs)) vs
   unfolding write_rows
   write-texts h =
-      let u = refused_filling ROOM from (areas vs fs es bs) in
+      let u = refused_filling ROOM (areas vs fs es bs) in
       let v = written k rs t (areas vs fs es bs) in
       ap (λ (x : Bool). cond x u v) (short-texts h)
-      ∙ either-values (short k rs (areas [] fs es bs)) u v (refused_filling ROOM from (areas [] fs es bs)) (written k rs t (areas [] fs es bs)) vs refl
+      ∙ either-values (short k rs (areas [] fs es bs)) u v (refused_filling ROOM (areas [] fs es bs)) (written k rs t (areas [] fs es bs)) vs refl
       (written-texts h)
 
 module _ (p : Parts) (from : Spot) (b : List ℕ) (vs : List ℤ) (fs es bs : List ℕ) where
@@ -86,13 +87,13 @@ module _ (p : Parts) (from : Spot) (b : List ℕ) (vs : List ℤ) (fs es bs : Li
       let u = next_by p.source.coded from t in
       either-texts
       (all_of (good_in p b) is)
-      (write_rows p.source.kind from rs u (areas vs fs es bs))
-      (refused_filling DISAGREE from (areas vs fs es bs))
-      (write_rows p.source.kind from rs u (areas vs fs [] []))
-      (refused_filling DISAGREE from (areas vs fs [] []))
+      (write_rows p.source.kind rs u (areas vs fs es bs))
+      (refused_filling DISAGREE (areas vs fs es bs))
+      (write_rows p.source.kind rs u (areas vs fs [] []))
+      (refused_filling DISAGREE (areas vs fs [] []))
       es
       bs
-      (write-fixed p.source.kind from rs u vs fs es bs h)
+      (write-fixed p.source.kind rs u vs fs es bs h)
       refl
 
   fill-texts :
@@ -105,16 +106,16 @@ module _ (p : Parts) (from : Spot) (b : List ℕ) (vs : List ℤ) (fs es bs : Li
       let u = next_by p.source.coded from t in
       either-values
       (all_of (good_in p b) is)
-      (write_rows p.source.kind from rs u (areas vs fs es bs))
-      (refused_filling DISAGREE from (areas vs fs es bs))
-      (write_rows p.source.kind from rs u (areas [] fs es bs))
-      (refused_filling DISAGREE from (areas [] fs es bs))
+      (write_rows p.source.kind rs u (areas vs fs es bs))
+      (refused_filling DISAGREE (areas vs fs es bs))
+      (write_rows p.source.kind rs u (areas [] fs es bs))
+      (refused_filling DISAGREE (areas [] fs es bs))
       vs
-      (write-texts p.source.kind from rs u vs fs es bs h)
+      (write-texts p.source.kind rs u vs fs es bs h)
       refl
 
 -- ---- an answer with all four areas
-abbrev pub AllTold : Filled → List ℤ → List ℕ → List ℕ → List ℕ → Filling → Type 0
+abbrev pub AllTold : Result Filled ℕ → List ℤ → List ℕ → List ℕ → List ℕ → Filling → Type 0
 AllTold g vs fs es bs y =
     (g ≡ y.answer) × ((vs ≡ y.areas.values) × ((fs ≡ y.areas.flags) × ((es ≡ y.areas.ends) × (bs ≡ y.areas.bytes))))
 
@@ -127,14 +128,14 @@ all_told e =
 
 module _ (p : Parts) (from : Spot) (b : List ℕ) (n : ℕ) (vs : List ℤ) (fs es bs : List ℕ) where
   pub fixed-all :
-      is_bytes p.source.kind ≡ false → {g : Filled} {vs' : List ℤ} {fs' : List ℕ} → FixedTold g vs' fs' (fixed_filling p from b n vs fs)
+      is_bytes p.source.kind ≡ false → {g : Result Filled ℕ} {vs' : List ℤ} {fs' : List ℕ} → FixedTold g vs' fs' (fixed_filling p from b n vs fs)
       → AllTold g vs' fs' es bs (filling p from b n (areas vs fs es bs))
   fixed-all i h =
       let x = all_told (sym (fill-fixed p from b vs fs es bs i (steps_by p from b n))) in
       (h.0 ∙ x.0, (h.1.0 ∙ x.1.0, (h.1.1 ∙ x.1.1.0, (x.1.1.1.0, x.1.1.1.1))))
 
   pub texts-all :
-      is_bytes p.source.kind ≡ true → {g : Filled} {fs' es' bs' : List ℕ} → TextTold g fs' es' bs' (text_filling p from b n fs es bs)
+      is_bytes p.source.kind ≡ true → {g : Result Filled ℕ} {fs' es' bs' : List ℕ} → TextTold g fs' es' bs' (text_filling p from b n fs es bs)
       → AllTold g vs fs' es' bs' (filling p from b n (areas vs fs es bs))
   texts-all i h =
       let x = all_told (sym (fill-texts p from b vs fs es bs i (steps_by p from b n))) in

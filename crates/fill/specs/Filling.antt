@@ -1,5 +1,5 @@
 -- For the code: what writing the next rows into lent areas asks, and what it comes to. Assumes nothing.
-use Rattle.std.specs.Prelude.{ℕ, ◌≤◌, Bool, true, false, cond, List, [], map, ℤ}
+use Rattle.std.specs.Prelude.{ℕ, ◌≤◌, Bool, true, false, cond, List, [], map, ℤ, Result, Ok, Err}
 use Rattle.limits.specs.Refusals.{ROOM, DISAGREE}
 use Rattle.encode.specs.declared.Kind.{Kind}
 use Rattle.plain.specs.Rows.{Row}
@@ -22,27 +22,30 @@ pub record Roomy (p : Parts) (from : Spot) (b : List ℕ) (n w flags ends bytes 
 
 -- ---- what writing them comes to: the answer, and what the areas then hold
 pub record Filling : Type 0 where
-  pub answer : Filled
+  pub answer : Result Filled ℕ
   pub areas : Areas
 
-abbrev pub refused_filling : ℕ → Spot → Areas → Filling
-refused_filling e from a = record { answer = record { number = e; bytes = 0; next = from }; areas = a }
+abbrev pub filled : ℕ → Spot → Filled
+filled bytes t = record { bytes = bytes; next = t }
+
+abbrev pub refused_filling : ℕ → Areas → Filling
+refused_filling e a = record { answer = Err e; areas = a }
 
 -- rows that are not coded by runs leave the place in the runs alone
 unfoldable pub next_by : Bool → Spot → Spot → Spot
 next_by true from t = t
 next_by false from t = from
 
-unfoldable pub write_rows : Kind → Spot → List Row → Spot → Areas → Filling
-write_rows k from rs t a =
-    cond (short k rs a) (refused_filling ROOM from a)
-    (record { answer = record { number = 0; bytes = given_bytes k rs; next = t }; areas = filled_in k rs a })
+unfoldable pub write_rows : Kind → List Row → Spot → Areas → Filling
+write_rows k rs t a =
+    cond (short k rs a) (refused_filling ROOM a)
+    (record { answer = Ok (filled (given_bytes k rs) t); areas = filled_in k rs a })
 
 unfoldable pub filling_by : Parts → Spot → List ℕ → Areas → Steps → Filling
-filling_by p from b a stuck = refused_filling DISAGREE from a
+filling_by p from b a stuck = refused_filling DISAGREE a
 filling_by p from b a (rows is t) =
-    cond (all_of (good_in p b) is) (write_rows p.source.kind from (map (row_in p b) is) (next_by p.source.coded from t) a)
-    (refused_filling DISAGREE from a)
+    cond (all_of (good_in p b) is) (write_rows p.source.kind (map (row_in p b) is) (next_by p.source.coded from t) a)
+    (refused_filling DISAGREE a)
 
 abbrev pub filling : Parts → Spot → List ℕ → ℕ → Areas → Filling
 filling p from b n a = filling_by p from b a (steps_by p from b n)

@@ -5,32 +5,21 @@ mod fixed;
 mod texts;
 
 ghost use Rattle.std.specs.Prelude.{◌≡◌};
+ghost use Rattle.limits.specs.Refusals.{by_number};
 ghost use Rattle.part_rows.specs.PartRows.{Serves};
 ghost use Rattle.fill.specs.Areas.{areas};
 ghost use Rattle.fill.specs.Filling.{filling};
 
 use anatomy::Parts;
 use encode::Kind;
+use limits::refusal::Refusal;
 use rle::Spot;
 
-// What writing some rows answers: 0, the bytes written of char, blob and string, and the place after the rows; or a refusal and the place
-// before them.
+// What writing some rows answers: the bytes written of char, blob and string, and the place after the rows.
 #[derive(Clone, Copy)]
 pub struct Filled {
-    pub number: u8,
     pub bytes: usize,
     pub next: Spot,
-}
-
-// A refusal.
-fn refused(number: u8, from: Spot) -> Filled
-    ensures { result ≡ record { number = number; bytes = 0; next = from } }
-{
-    Filled {
-        number,
-        bytes: 0,
-        next: from,
-    }
 }
 
 // Writes the next `n` rows into the areas of their kind.
@@ -43,9 +32,9 @@ pub fn write_rows(
     flags: &mut [u8],
     ends: &mut [u32],
     bytes: &mut [u8],
-) -> Filled
+) -> Result<Filled, Refusal>
     requires { Serves parts from block.now n }
-    ensures value { result ≡ (filling parts from block.now n (areas values.old flags.old ends.old bytes.old)).answer }
+    ensures value { by_number result ≡ (filling parts from block.now n (areas values.old flags.old ends.old bytes.old)).answer }
     ensures values_after { values.new ≡ (filling parts from block.now n (areas values.old flags.old ends.old bytes.old)).areas.values }
     ensures flags_after { flags.new ≡ (filling parts from block.now n (areas values.old flags.old ends.old bytes.old)).areas.flags }
     ensures ends_after { ends.new ≡ (filling parts from block.now n (areas values.old flags.old ends.old bytes.old)).areas.ends }

@@ -1,14 +1,14 @@
 // Rows of char, blob and string: their flags, ends and bytes.
 ghost use Rattle.std.specs.Prelude.{◌≡◌, true, ◌<◌, length};
+ghost use Rattle.limits.specs.Refusals.{by_number};
 ghost use Rattle.part_rows.specs.PartRows.{Serves};
 ghost use Rattle.fill.specs.Areas.{is_bytes};
 ghost use Rattle.fill.specs.Filling.{Roomy, next_by, text_filling};
 
-use crate::{Filled, refused};
+use crate::Filled;
 use anatomy::Parts;
-use limits::refusal;
+use limits::refusal::Refusal;
 use rle::Spot;
-use source::Weighed;
 
 // The width of char items that are a row each, with no marks, if the room holds what the next `n` rows take at most; or 0.
 fn roomy_width(
@@ -50,20 +50,19 @@ fn give_chars(
     flags: &mut [u8],
     ends: &mut [u32],
     bytes: &mut [u8],
-) -> Filled
+) -> Result<Filled, Refusal>
     requires { Serves parts from block.now n × Roomy parts from block.now n w (length flags.old) (length ends.old) (length bytes.old) }
-    ensures value { result ≡ (text_filling parts from block.now n flags.old ends.old bytes.old).answer }
+    ensures value { by_number result ≡ (text_filling parts from block.now n flags.old ends.old bytes.old).answer }
     ensures flags_after { flags.new ≡ (text_filling parts from block.now n flags.old ends.old bytes.old).areas.flags }
     ensures ends_after { ends.new ≡ (text_filling parts from block.now n flags.old ends.old bytes.old).areas.ends }
     ensures bytes_after { bytes.new ≡ (text_filling parts from block.now n flags.old ends.old bytes.old).areas.bytes }
 {
     let total = item_rows::write_chars(w, parts, from, block, n, ends, bytes);
-    area::fill_bytes(flags, 0, n, 1);
-    Filled {
-        number: 0,
+    area::fill(flags, 0, n, 1);
+    Ok(Filled {
         bytes: total,
         next: from,
-    }
+    })
 }
 
 // Rows of char, blob and string, weighed before they are written.
@@ -75,36 +74,36 @@ fn give_weighed(
     flags: &mut [u8],
     ends: &mut [u32],
     bytes: &mut [u8],
-) -> Filled
+) -> Result<Filled, Refusal>
     requires { Serves parts from block.now n × (is_bytes parts.source.kind ≡ true) }
-    ensures value { result ≡ (text_filling parts from block.now n flags.old ends.old bytes.old).answer }
+    ensures value { by_number result ≡ (text_filling parts from block.now n flags.old ends.old bytes.old).answer }
     ensures flags_after { flags.new ≡ (text_filling parts from block.now n flags.old ends.old bytes.old).areas.flags }
     ensures ends_after { ends.new ≡ (text_filling parts from block.now n flags.old ends.old bytes.old).areas.ends }
     ensures bytes_after { bytes.new ≡ (text_filling parts from block.now n flags.old ends.old bytes.old).areas.bytes }
 {
-    let weighed = part_rows::weigh_rows(parts, from, block, n);
-    let Weighed::Total { bytes: total, next } = weighed else {
-        return refused(refusal::DISAGREE, from);
+    let looked = part_rows::weigh_rows(parts, from, block, n);
+    let Some(weighed) = looked else {
+        return Err(Refusal::Disagree);
     };
+    let total = weighed.bytes;
     if flags.len() < n {
-        return refused(refusal::ROOM, from);
+        return Err(Refusal::Room);
     }
     if ends.len() < n {
-        return refused(refusal::ROOM, from);
+        return Err(Refusal::Room);
     }
     if bytes.len() < total {
-        return refused(refusal::ROOM, from);
+        return Err(Refusal::Room);
     }
     if limits::MOST_GIVEN < total {
-        return refused(refusal::ROOM, from);
+        return Err(Refusal::Room);
     }
     part_rows::write_texts(parts, from, block, n, flags, ends, bytes);
     let source = parts.source;
-    Filled {
-        number: 0,
+    Ok(Filled {
         bytes: total,
-        next: next_by(source.coded, from, next),
-    }
+        next: next_by(source.coded, from, weighed.next),
+    })
 }
 
 // Rows that are not coded by runs leave the place in the runs alone.
@@ -126,9 +125,9 @@ pub fn give_texts(
     flags: &mut [u8],
     ends: &mut [u32],
     bytes: &mut [u8],
-) -> Filled
+) -> Result<Filled, Refusal>
     requires { Serves parts from block.now n × (is_bytes parts.source.kind ≡ true) }
-    ensures value { result ≡ (text_filling parts from block.now n flags.old ends.old bytes.old).answer }
+    ensures value { by_number result ≡ (text_filling parts from block.now n flags.old ends.old bytes.old).answer }
     ensures flags_after { flags.new ≡ (text_filling parts from block.now n flags.old ends.old bytes.old).areas.flags }
     ensures ends_after { ends.new ≡ (text_filling parts from block.now n flags.old ends.old bytes.old).areas.ends }
     ensures bytes_after { bytes.new ≡ (text_filling parts from block.now n flags.old ends.old bytes.old).areas.bytes }

@@ -6,6 +6,7 @@ use mathlib.Core.Path.{◌≡◌, refl, sym, ap, ◌∙◌}
 use lib.IntN.{ℤ, pos}
 use lib.ListN.{length, replicate}
 use lib.Seq.{sets}
+use Rattle.std.specs.Prelude.{Some}
 use Rattle.encode.specs.Kinds.{width_of}
 use Rattle.encode.specs.declared.Kind.{Kind}
 use Rattle.encode.specs.declared.Kind.TheVariants.{Fixed}
@@ -14,8 +15,8 @@ use Rattle.plain.specs.Rows.{int_in}
 use Rattle.plain.specs.Plain.{least_bytes, plain_row, fixed_at}
 use Rattle.plain.proofs.Items.{item_room}
 use Rattle.rle.specs.declared.Spot.{Spot}
-use Rattle.rle.specs.declared.Piece.TheVariants.{Rows}
 use Rattle.dict.specs.Dictionary.{entry_row}
+use Rattle.rle.specs.Pieces.{run_piece}
 use Rattle.source.specs.declared.Source.{Source}
 use Rattle.source.specs.Rows.{shown_by, int_of, int_by, piece_of}
 use Rattle.source.proofs.AtPlace.{int-shown}
@@ -47,7 +48,7 @@ module _ (s : Source) (marks items counts : List ℕ) (n : ℕ) (from : Spot) (v
 
   pub values-on :
       {p : Primitive} → s.kind ≡ Fixed p → {at : Spot} {left to : ℕ} {values : List ℤ} → Values at left to values → 0 < left
-      → {k : ℕ} {t : Spot} → piece_of s counts at left ≡ Rows k t → {slot : ℕ} → (0 < k → slot ≡ shown_by s.marks marks at.run)
+      → {k : ℕ} {t : Spot} → piece_of s counts at left ≡ Some (run_piece k t) → {slot : ℕ} → (0 < k → slot ≡ shown_by s.marks marks at.run)
       → {x v : ℤ} → x ≡ v → v ≡ int_of (Fixed p) s.items items slot
       → {values' : List ℤ} → values' ≡ sets values to (replicate k x) → Values t (left - k) (to + k) values'
   values-on kind {at} w l {k} b {slot} shows {x} i v q = filled_on w l refl b same q

@@ -47,7 +47,7 @@ pub fn put_values(
         let rows = run.rows;
         let next = run.next;
         let value = value_of(p, s.items, items, run.slot);
-        area::fill_values(values, to, rows, value);
+        area::fill(values, to, rows, value);
         to += rows;
         left -= rows;
         at = next;

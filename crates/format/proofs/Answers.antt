@@ -4,7 +4,7 @@ use native.Mathlib.Omega.{arith}
 use mathlib.Core.List.{List, [], ◌∷◌}
 use mathlib.Core.Path.{◌≡◌, refl}
 use Rattle.plain.specs.Rules.{first_of}
-use Rattle.format.specs.declared.Found.TheVariants.{Sound, Refused}
+use Rattle.std.specs.Prelude.{Ok, Err}
 use Rattle.format.specs.declared.Head.{Head}
 use Rattle.format.specs.Found.{found_by}
 
@@ -32,22 +32,22 @@ two-first zero (suc y) z = refl
 two-first (suc x) y z = refl
 
 -- ---- the answer that a number gives
-pub refused-by : (e : ℕ) (h : Head) → (e ≡ 0 → ⊥) → Refused e ≡ found_by e h
+pub refused-by : (e : ℕ) (h : Head) → (e ≡ 0 → ⊥) → Err e ≡ found_by e h
 unfolding found_by
 refused-by zero h n = absurd (n refl)
 refused-by (suc e) h n = refl
 
-pub sound-by : (h : Head) → Sound h ≡ found_by 0 h
+pub sound-by : (h : Head) → Ok h ≡ found_by 0 h
 unfolding found_by
 sound-by h = refl
 
 -- what the answer tells of the number
-pub found-sound : (number : ℕ) (h : Head) {g : Head} → Sound g ≡ found_by number h → (number ≡ 0) × (g ≡ h)
+pub found-sound : (number : ℕ) (h : Head) {g : Head} → Ok g ≡ found_by number h → (number ≡ 0) × (g ≡ h)
 unfolding found_by
 found-sound zero h q = (refl, cc)
 found-sound (suc e) h q = let z : ◌≡◌ {A = ℕ} 0 1 = cc in absurd (omega arith)
 
-pub found-refused : (number : ℕ) (h : Head) {e : ℕ} → Refused e ≡ found_by number h → (number ≡ e) × (0 < e)
+pub found-refused : (number : ℕ) (h : Head) {e : ℕ} → Err e ≡ found_by number h → (number ≡ e) × (0 < e)
 unfolding found_by
 found-refused zero h q = let z : ◌≡◌ {A = ℕ} 0 1 = cc in absurd (omega arith)
 found-refused (suc n) h {e} q = let s : suc n ≡ e = cc in (s, omega arith)

@@ -11,11 +11,12 @@ use Rattle.rle.specs.RunLength.{run_length_number}
 use Rattle.dict.specs.Dictionary.{dictionary_number}
 use Rattle.format.specs.declared.Encoding.{Encoding}
 use Rattle.format.specs.declared.Encoding.TheVariants.{Plain, Nullable, RunLength, RunLengthNullable, Dictionary}
-use Rattle.format.specs.declared.Found.{Found}
+use Rattle.std.specs.Prelude.{Result}
+use Rattle.format.specs.declared.Head.{Head}
 use Rattle.format.specs.Opening.{most_rows, rules_of, head, head_of}
 use Rattle.format.specs.Found.{found_by, inner_number, runs_head, keys_asked, dictionary_asked}
 
-module _ (k : Kind) {e : Encoding} (n : ℕ) (b : List ℕ) {r : Found} where
+module _ (k : Kind) {e : Encoding} (n : ℕ) (b : List ℕ) {r : Result Head ℕ} where
   -- an answer for the encoding that a match found
   same : (f : Encoding) → e ≡ f → r ≡ found_by (rules_of k f n b) (head_of f b) → r ≡ found_by (rules_of k e n b) (head_of e b)
   same f q p = subst (λ (x : Encoding). r ≡ found_by (rules_of k x n b) (head_of x b)) (sym q) p

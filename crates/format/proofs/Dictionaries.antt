@@ -15,31 +15,30 @@ use Rattle.rle.specs.RunLength.{run_length_number}
 use Rattle.dict.specs.Dictionary.{i32, key_length, entries_in, key_part, entries_part, dictionary_rules}
 use Rattle.format.specs.declared.Encoding.TheVariants.{Dictionary}
 use Rattle.format.specs.declared.Head.{Head}
-use Rattle.format.specs.declared.Found.{Found}
-use Rattle.format.specs.declared.Found.TheVariants.{Sound, Refused}
+use Rattle.std.specs.Prelude.{Result, Ok, Err}
 use Rattle.format.specs.Opening.{head, head_of}
 use Rattle.format.specs.Found.{found_by, runs_head, keys_asked, key_block_number, dictionary_asked}
 use Rattle.format.proofs.Answers.{first_one, broken-first, kept-first, two-first, refused-by, sound-by, found-sound, found-refused}
 use Rattle.format.proofs.RunBlocks.{rest_of}
 
 module _ (asked : Bool) (k : Kind) (n : ℕ) (b : List ℕ) where
-  abbrev answer : Found
+  abbrev answer : Result Head ℕ
   answer = found_by (dictionary_asked asked k n b) (head_of Dictionary b)
 
-  refused : (e : ℕ) → (e ≡ 0 → ⊥) → dictionary_asked asked k n b ≡ e → Refused e ≡ answer
+  refused : (e : ℕ) → (e ≡ 0 → ⊥) → dictionary_asked asked k n b ≡ e → Err e ≡ answer
   refused e l h = rw h (refused-by e (head_of Dictionary b) l)
 
-  pub too_short : length b < 12 → Refused CUT ≡ answer
+  pub too_short : length b < 12 → Err CUT ≡ answer
   unfolding dictionary_asked dictionary_rules first_of
   too_short h = refused CUT (λ z. omega arith) (simp (lt-ltb (length b) 12 h))
 
   module _ (h0 : 12 ≤ length b) {entries : ℕ} (e1 : entries ≡ entries_in b) where
-    pub too_many : MOST_ENTRIES < entries → Refused LIMIT ≡ answer
+    pub too_many : MOST_ENTRIES < entries → Err LIMIT ≡ answer
     unfolding dictionary_asked dictionary_rules first_of
     too_many h = refused LIMIT (λ z. omega arith) (rw (← e1) (simp (le-ltb (length b) 12 h0, lt-ltb MOST_ENTRIES entries h)))
 
     module _ (h1 : entries ≤ MOST_ENTRIES) {keys : ℕ} (e2 : keys ≡ key_length b) where
-      pub cut_short : length b < 12 + keys → Refused CUT ≡ answer
+      pub cut_short : length b < 12 + keys → Err CUT ≡ answer
       unfolding dictionary_asked dictionary_rules first_of
       cut_short h =
           refused CUT (λ z. omega arith)
@@ -62,15 +61,15 @@ module _ (asked : Bool) (k : Kind) (n : ℕ) (b : List ℕ) where
             (simp (le-ltb (length b) 12 h0, le-ltb MOST_ENTRIES entries h1, le-ltb (length b) (12 + keys) h2)
             (two-first (run_length_number (plain_number i32) n part) (keys_asked asked entries part) (plain_number k entries (drop (12 + keys) b))))
 
-        module _ {found : Found} (p : found ≡ found_by (key_block_number asked n entries part) (runs_head part)) where
-          pub keys-wrong : {e : ℕ} → found ≡ Refused e → found ≡ answer
+        module _ {found : Result Head ℕ} (p : found ≡ found_by (key_block_number asked n entries part) (runs_head part)) where
+          pub keys-wrong : {e : ℕ} → found ≡ Err e → found ≡ answer
           keys-wrong {e} q =
               let r = found-refused (key_block_number asked n entries part) (runs_head part) (sym q ∙ p) in
               let l : key_block_number asked n entries part ≡ 0 → ⊥ = λ z. omega (arith, r.0, r.1) in
               let first = broken-first (key_block_number asked n entries part) (plain_number k entries (drop (12 + keys) b) ∷ []) l in
               q ∙ refused e (λ z. omega (arith, r.1)) (number_is ∙ first ∙ r.0)
 
-          module _ {h : Head} (q : found ≡ Sound h) where
+          module _ {h : Head} (q : found ≡ Ok h) where
             told : (key_block_number asked n entries part ≡ 0) × (h ≡ runs_head part)
             told = found-sound (key_block_number asked n entries part) (runs_head part) (sym q ∙ p)
 
@@ -82,9 +81,9 @@ module _ (asked : Bool) (k : Kind) (n : ℕ) (b : List ℕ) where
                   ∙ first_one (plain_number k entries (drop (12 + keys) b))
                   ∙ sym (rw rest_of at i)
 
-              pub entries-wrong : (r ≡ 0 → ⊥) → Refused r ≡ answer
+              pub entries-wrong : (r ≡ 0 → ⊥) → Err r ≡ answer
               entries-wrong e = refused r e plain-is
 
-              pub entries-right : r ≡ 0 → Sound (head h.runs h.counts keys entries) ≡ answer
+              pub entries-right : r ≡ 0 → Ok (head h.runs h.counts keys entries) ≡ answer
               unfolding head_of runs_head
               entries-right e = rw (plain-is, e) (rw (part-is, told.1, ← e1, ← e2) (sound-by _))

@@ -13,8 +13,7 @@ use Rattle.rle.specs.RunLength.{runs_in, counts_length, inner_part, run_length_n
 use Rattle.encode.specs.declared.Primitive.TheVariants.{I32}
 use Rattle.dict.specs.Dictionary.{i32, known, keys_number}
 use Rattle.format.specs.declared.Head.{Head}
-use Rattle.format.specs.declared.Found.{Found}
-use Rattle.format.specs.declared.Found.TheVariants.{Sound, Refused}
+use Rattle.std.specs.Prelude.{Result, Ok, Err}
 use Rattle.format.specs.Found.{found_by, inner_number, runs_head, keys_asked, key_block_number}
 use Rattle.format.proofs.Answers.{first_one, broken-first, kept-first, refused-by, found-sound, found-refused}
 use Rattle.format.proofs.RunBlocks.{rest_of}
@@ -33,9 +32,9 @@ unfolding keys_asked
 asked-kept true entries b h = h
 asked-kept false entries b h = refl
 
-module _ (asked : Bool) (n entries : ℕ) (b : List ℕ) {found : Found}
+module _ (asked : Bool) (n entries : ℕ) (b : List ℕ) {found : Result Head ℕ}
     (p : found ≡ found_by (run_length_number (inner_number false i32) n b) (runs_head b)) where
-  abbrev answer : Found
+  abbrev answer : Result Head ℕ
   answer = found_by (key_block_number asked n entries b) (runs_head b)
 
   abbrev runs_number : ℕ
@@ -45,14 +44,14 @@ module _ (asked : Bool) (n entries : ℕ) (b : List ℕ) {found : Found}
   unfolding inner_number
   by_runs = p
 
-  pub runs-wrong : {e : ℕ} → found ≡ Refused e → found ≡ answer
+  pub runs-wrong : {e : ℕ} → found ≡ Err e → found ≡ answer
   unfolding key_block_number
   runs-wrong {e} q =
       let r = found-refused runs_number (runs_head b) (sym q ∙ by_runs) in
       let l : runs_number ≡ 0 → ⊥ = λ z. omega (arith, r.0, r.1) in
       rw (broken-first runs_number (keys_asked asked entries b ∷ []) l) by_runs
 
-  module _ {h : Head} (q : found ≡ Sound h) where
+  module _ {h : Head} (q : found ≡ Ok h) where
     told : (runs_number ≡ 0) × (h ≡ runs_head b)
     told = found-sound runs_number (runs_head b) (sym q ∙ by_runs)
 
@@ -65,14 +64,14 @@ module _ (asked : Bool) (n entries : ℕ) (b : List ℕ) {found : Found}
     number_is = kept-first (keys_asked asked entries b ∷ []) told.0 ∙ first_one (keys_asked asked entries b)
 
     -- where rule 15 is kept or not asked, the answer is that of the runs
-    same_answer : keys_asked asked entries b ≡ 0 → Sound h ≡ answer
+    same_answer : keys_asked asked entries b ≡ 0 → Ok h ≡ answer
     same_answer e = sym q ∙ by_runs ∙ rw (number_is, e, told.0)
 
-    pub no_keys : h.runs ≡ 0 → Sound h ≡ answer
+    pub no_keys : h.runs ≡ 0 → Ok h ≡ answer
     unfolding keys_number known places runs_head
     no_keys e = let z : runs_in b ≡ 0 = sym (ap (λ (g : Head). g.runs) told.1) ∙ e in same_answer (asked-kept asked entries b (rw z))
 
-    pub not-asked : asked ≡ false → Sound h ≡ answer
+    pub not-asked : asked ≡ false → Ok h ≡ answer
     unfolding keys_asked
     not-asked a = same_answer (rw a)
 
@@ -89,10 +88,10 @@ module _ (asked : Bool) (n entries : ℕ) (b : List ℕ) {found : Found}
             (sym (ap (λ (g : Head). g.counts) told.1), sym (ap (λ (g : Head). g.runs) told.1)) in
             rw (read.0, read.1) (sym (rw rest_of at i))
 
-        pub keys-right : t ≡ true → Sound h ≡ answer
+        pub keys-right : t ≡ true → Ok h ≡ answer
         unfolding keys_number
         keys-right e = same_answer (asked-kept asked entries b (rw (known_is, e)))
 
-        pub keys-wrong : asked ≡ true → t ≡ false → Refused KEY ≡ answer
+        pub keys-wrong : asked ≡ true → t ≡ false → Err KEY ≡ answer
         unfolding keys_asked keys_number
         keys-wrong a e = rw (number_is, a, known_is, e) (refused-by KEY (runs_head b) (λ z. omega arith))

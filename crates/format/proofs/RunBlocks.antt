@@ -6,12 +6,11 @@ use mathlib.Core.Path.{◌≡◌, refl, sym, ap, ◌∙◌}
 use lib.ListN.{length, take, drop, length-drop}
 use lib.Seq.{take_all}
 use Rattle.rle.specs.declared.RunHead.{RunHead}
-use Rattle.rle.specs.declared.RunHead.TheVariants.{Empty, Runs, Refused as HeadRefused}
 use Rattle.rle.specs.RunLength.{runs_in, counts_length, inner_part, run_length_number}
 use Rattle.rle.specs.Pieces.{head_found, number_by}
 use Rattle.rle.proofs.Opening.{Sound as SoundHead, head-number, head-sound, head-empty, head-refused}
-use Rattle.format.specs.declared.Found.{Found}
-use Rattle.format.specs.declared.Found.TheVariants.{Sound, Refused}
+use Rattle.std.specs.Prelude.{Option, Some, None, Result, Ok, Err}
+use Rattle.format.specs.declared.Head.{Head}
 use Rattle.format.specs.Opening.{head}
 use Rattle.format.specs.Found.{found_by, runs_head}
 use Rattle.format.proofs.Answers.{refused-by, sound-by}
@@ -26,36 +25,36 @@ no-head [] h = refl
 no-head (x ∷ b) h = absurd (omega arith)
 
 pub head-right :
-    (n : ℕ) (b : List ℕ) {g : RunHead} {runs counts : ℕ} → g ≡ head_found n b → g ≡ Runs runs counts → SoundHead n b runs counts
+    (n : ℕ) (b : List ℕ) {g : Result (Option RunHead) ℕ} {h : RunHead} → g ≡ head_found n b → g ≡ Ok (Some h) → SoundHead n b h.runs h.counts
 head-right n b p q = head-sound n b (sym p ∙ q)
 
-module _ (inner : ℕ → List ℕ → ℕ) (n : ℕ) (b : List ℕ) {g : RunHead} (p : g ≡ head_found n b) where
-  abbrev answer : Found
+module _ (inner : ℕ → List ℕ → ℕ) (n : ℕ) (b : List ℕ) {g : Result (Option RunHead) ℕ} (p : g ≡ head_found n b) where
+  abbrev answer : Result Head ℕ
   answer = found_by (run_length_number inner n b) (runs_head b)
 
   -- the head was found to be so
-  number_is : {h : RunHead} → g ≡ h → run_length_number inner n b ≡ number_by inner b h
+  number_is : {h : Result (Option RunHead) ℕ} → g ≡ h → run_length_number inner n b ≡ number_by inner b h
   number_is q = head-number inner n b ∙ ap (number_by inner b) (sym p ∙ q)
 
-  pub no_block : g ≡ Empty → found_by 0 (head 0 0 0 0) ≡ answer
+  pub no_block : g ≡ Ok None → found_by 0 (head 0 0 0 0) ≡ answer
   unfolding number_by
   no_block q = rw (number_is q, no-head b (head-empty n b (sym p ∙ q)).0)
 
-  pub head-wrong : {e : ℕ} → g ≡ HeadRefused e → Refused e ≡ answer
+  pub head-wrong : {e : ℕ} → g ≡ Err e → Err e ≡ answer
   unfolding number_by
   head-wrong {e} q = let l = head-refused n b (sym p ∙ q) in rw (number_is q) (refused-by e (runs_head b) (λ z. omega arith))
 
   -- the inner block was checked where it stands, behind the counts
   module _
-      {runs counts r : ℕ} (q : g ≡ Runs runs counts) (i : r ≡ inner runs (take (length b - (8 + counts)) (drop (8 + counts) b)))
+      {h : RunHead} {r : ℕ} (q : g ≡ Ok (Some h)) (i : r ≡ inner h.runs (take (length b - (8 + h.counts)) (drop (8 + h.counts) b)))
     where
       inner-is : run_length_number inner n b ≡ r
       unfolding number_by inner_part
       inner-is = number_is q ∙ sym (rw rest_of at i)
 
-      pub inner-wrong : (r ≡ 0 → ⊥) → Refused r ≡ answer
-      inner-wrong h = rw inner-is (refused-by r (runs_head b) h)
+      pub inner-wrong : (r ≡ 0 → ⊥) → Err r ≡ answer
+      inner-wrong z = rw inner-is (refused-by r (runs_head b) z)
 
-      pub inner-right : r ≡ 0 → Sound (head runs counts 0 0) ≡ answer
+      pub inner-right : r ≡ 0 → Ok (head h.runs h.counts 0 0) ≡ answer
       unfolding runs_head
-      inner-right h = let s = head-right n b p q in rw (inner-is, h, s.runs-read, s.counts-read) (sound-by (runs_head b))
+      inner-right z = let s = head-right n b p q in rw (inner-is, z, s.runs-read, s.counts-read) (sound-by (runs_head b))

@@ -15,16 +15,15 @@ use Rattle.plain.proofs.Rules.{kept, whole}
 use Rattle.plain.specs.Rules.{◌if◌, first_of}
 use Rattle.plain.specs.Plain.{places, plain_number}
 use Rattle.nullable.specs.Nullable.{nullable_number}
-use Rattle.rle.specs.declared.Walked.TheVariants.{Total}
+use Rattle.std.specs.Prelude.{Option, Some, None, Result, Ok, Err}
 use Rattle.rle.specs.declared.RunHead.{RunHead}
-use Rattle.rle.specs.declared.RunHead.TheVariants.{Empty, Runs, Refused}
 use Rattle.rle.specs.RunLength.{runs_in, counts_length, counts_part, inner_part, walked, run_length_number}
 use Rattle.rle.specs.Pieces.{head_found, number_by}
 use Rattle.rle.proofs.Opening.{head-number, head-sound, head-empty, head-refused}
 use Rattle.dict.specs.Dictionary.{i32, key_length, entries_in, key_part, entries_part, known, keys_number, dictionary_rules, dictionary_number}
 use Rattle.format.specs.declared.Encoding.{Encoding}
 use Rattle.format.specs.declared.Encoding.TheVariants.{Plain, Nullable, RunLength, RunLengthNullable, Dictionary}
-use Rattle.format.specs.declared.Column.TheVariants.{Of}
+use Rattle.format.specs.Blocks.{column}
 use Rattle.format.specs.Opening.{rules_of, most_rows, column_number, head_of}
 use Rattle.format.proofs.Answers.{first_one}
 
@@ -35,7 +34,7 @@ pub record Within (k : Kind) (e : Encoding) (n : ℕ) (b : List ℕ) : Type 0 wh
   pub rules : rules_of k e n b ≡ 0
 
 module _ (k : Kind) (e : Encoding) (n : ℕ) (b : List ℕ) where
-  pub column-sound : column_number (Of k e) n b ≡ 0 → Within k e n b
+  pub column-sound : column_number (Some (column k e)) n b ≡ 0 → Within k e n b
   unfolding column_number
   column-sound h =
       let x = kept (LIMIT if ltb MOST_BYTES (length b)) _ h in
@@ -47,7 +46,7 @@ module _ (k : Kind) (e : Encoding) (n : ℕ) (b : List ℕ) where
       }
 
   -- within the limits the rules give the number
-  pub column-rules : length b ≤ MOST_BYTES → n ≤ most_rows e → column_number (Of k e) n b ≡ rules_of k e n b
+  pub column-rules : length b ≤ MOST_BYTES → n ≤ most_rows e → column_number (Some (column k e)) n b ≡ rules_of k e n b
   unfolding column_number first_of
   column-rules l m = simp (le-ltb MOST_BYTES (length b) l, le-ltb (most_rows e) n m) (first_one (rules_of k e n b))
 
@@ -65,7 +64,7 @@ pub record SomeRuns (inner : ℕ → List ℕ → ℕ) (b : List ℕ) (runs coun
 
 pub record SoundRuns (inner : ℕ → List ℕ → ℕ) (n : ℕ) (b : List ℕ) (runs counts : ℕ) : Type 0 where
   pub many : runs ≤ MOST_ITEMS
-  pub sum : walked runs (counts_part counts b) ≡ Total n
+  pub sum : walked runs (counts_part counts b) ≡ Ok n
   pub either : NoRuns n b runs counts ⊎ SomeRuns inner b runs counts
 
 module _ (inner : ℕ → List ℕ → ℕ) (n : ℕ) where
@@ -74,7 +73,7 @@ module _ (inner : ℕ → List ℕ → ℕ) (n : ℕ) where
   none_told [] h z =
       record {
         many = omega arith;
-        sum = ap Total (sym z);
+        sum = ap Ok (sym z);
         either = inl (record { no_bytes = refl; no_rows = z; no-runs = refl; no-counts = refl });
       }
   none_told (x ∷ b) h z = absurd (omega arith)
@@ -83,15 +82,15 @@ module _ (inner : ℕ → List ℕ → ℕ) (n : ℕ) where
   unfolding number_by
   runs-sound b h = by (head_found n b) refl
     where
-      by : (g : RunHead) → head_found n b ≡ g → SoundRuns inner n b (runs_in b) (counts_length b)
-      by Empty e = let z = head-empty n b e in none_told b z.0 z.1
-      by (Refused x) e =
+      by : (g : Result (Option RunHead) ℕ) → head_found n b ≡ g → SoundRuns inner n b (runs_in b) (counts_length b)
+      by (Ok None) e = let z = head-empty n b e in none_told b z.0 z.1
+      by (Err x) e =
           let p = head-refused n b e in
           let q : x ≡ 0 = sym (head-number inner n b ∙ ap (number_by inner b) e) ∙ h in
           absurd (omega arith)
-      by (Runs runs counts) e =
+      by (Ok (Some r)) e =
           let s = head-sound n b e in
-          let q : inner runs (inner_part counts b) ≡ 0 = sym (head-number inner n b ∙ ap (number_by inner b) e) ∙ h in
+          let q : inner r.runs (inner_part r.counts b) ≡ 0 = sym (head-number inner n b ∙ ap (number_by inner b) e) ∙ h in
           rw (← s.runs-read, ← s.counts-read)
           (record { many = s.many; sum = s.sum; either = inr (record { some = s.some; room = s.room; inside = q }) })
 

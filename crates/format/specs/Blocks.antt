@@ -1,9 +1,7 @@
 -- 01, "Kinds and encodings", "Layouts" and "Stored form", for every pair of a kind and an encoding. Assumes nothing.
-use Rattle.std.specs.Prelude.{ℕ, cond, List, map, eqb}
+use Rattle.std.specs.Prelude.{ℕ, cond, List, map, eqb, Option, Some, None}
 use Rattle.encode.specs.declared.Kind.{Kind}
 use Rattle.encode.specs.declared.Kind.TheVariants.{Fixed, Char, Blob}
-use Rattle.encode.specs.declared.FoundKind.{FoundKind}
-use Rattle.encode.specs.declared.FoundKind.TheVariants.{Known, Unknown as UnknownKind}
 use Rattle.encode.specs.Kinds.{kind_of}
 use Rattle.plain.specs.Rows.{Row, null, int, bytes, int_in, bytes_in}
 use Rattle.plain.specs.Plain.{plain_of, before_nul}
@@ -13,19 +11,30 @@ use Rattle.dict.specs.Dictionary.{dictionary_of}
 use Rattle.format.specs.declared.Encoding.{Encoding}
 use Rattle.format.specs.declared.Encoding.TheVariants.{Plain, Nullable, RunLength, RunLengthNullable, Dictionary}
 use Rattle.format.specs.declared.Column.{Column}
-use Rattle.format.specs.declared.Column.TheVariants.{Of, Unknown}
 
 -- ---- the pairs by number: every kind goes with every encoding
-unfoldable pub with_encoding : FoundKind → ℕ → Column
-with_encoding UnknownKind e = Unknown
-with_encoding (Known k) e =
-    cond (eqb e 0) (Of k Plain)
-    (cond (eqb e 1) (Of k Nullable)
-    (cond (eqb e 2) (Of k RunLength)
-    (cond (eqb e 3) (Of k RunLengthNullable)
-    (cond (eqb e 4) (Of k Dictionary) Unknown))))
+abbrev pub column : Kind → Encoding → Column
+column k e = record { kind = k; encoding = e }
 
-unfoldable pub column_of : ℕ → ℕ → ℕ → Column
+unfoldable pub with_encoding : Option Kind → ℕ → Option Column
+with_encoding None e = None
+with_encoding (Some k) e =
+    cond (eqb e 0) (Some (column k Plain))
+    (cond (eqb e 1) (Some (column k Nullable))
+    (cond (eqb e 2) (Some (column k RunLength))
+    (cond (eqb e 3) (Some (column k RunLengthNullable))
+    (cond (eqb e 4) (Some (column k Dictionary)) None))))
+
+-- the encoding alone
+unfoldable pub encoding_of : ℕ → Option Encoding
+encoding_of e =
+    cond (eqb e 0) (Some Plain)
+    (cond (eqb e 1) (Some Nullable)
+    (cond (eqb e 2) (Some RunLength)
+    (cond (eqb e 3) (Some RunLengthNullable)
+    (cond (eqb e 4) (Some Dictionary) None))))
+
+unfoldable pub column_of : ℕ → ℕ → ℕ → Option Column
 column_of kind encoding width = with_encoding (kind_of kind width) encoding
 
 -- ---- the block of a list of rows

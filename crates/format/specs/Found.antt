@@ -1,19 +1,17 @@
 -- For the code: the number and the head that a check finds. Assumes nothing.
-use Rattle.std.specs.Prelude.{ℕ, zero, suc, Bool, true, false, List, [], ◌∷◌}
+use Rattle.std.specs.Prelude.{ℕ, zero, suc, Bool, true, false, List, [], ◌∷◌, Result, Ok, Err}
 use Rattle.encode.specs.declared.Kind.{Kind}
 use Rattle.plain.specs.Rules.{first_of}
 use Rattle.plain.specs.Plain.{plain_number}
 use Rattle.nullable.specs.Nullable.{nullable_number}
 use Rattle.rle.specs.RunLength.{runs_in, counts_length, run_length_number}
 use Rattle.dict.specs.Dictionary.{i32, key_length, entries_in, key_part, keys_number, dictionary_rules}
-use Rattle.format.specs.declared.Found.{Found}
-use Rattle.format.specs.declared.Found.TheVariants.{Sound, Refused}
 use Rattle.format.specs.declared.Head.{Head}
 use Rattle.format.specs.Opening.{head}
 
-unfoldable pub found_by : ℕ → Head → Found
-found_by zero h = Sound h
-found_by (suc e) h = Refused (suc e)
+unfoldable pub found_by : ℕ → Head → Result Head ℕ
+found_by zero h = Ok h
+found_by (suc e) h = Err (suc e)
 
 -- the rules of an inner block
 unfoldable pub inner_number : Bool → Kind → ℕ → List ℕ → ℕ

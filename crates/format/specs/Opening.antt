@@ -1,6 +1,6 @@
 -- 01, "Sound blocks, in order of testing": the number that opening gives for any five arguments, 0 exactly for a sound block; and the rows that a
 -- sound block holds. Sums and products here are of whole numbers, and none can wrap. Assumes nothing.
-use Rattle.std.specs.Prelude.{ℕ, Bool, true, false, List, [], ◌∷◌, map, ltb, length}
+use Rattle.std.specs.Prelude.{ℕ, List, [], ◌∷◌, map, ltb, length, Option, Some, None}
 use Rattle.limits.specs.Limits.{MOST_ROWS, MOST_ITEMS, MOST_BYTES}
 use Rattle.limits.specs.Refusals.{COLUMN, LIMIT}
 use Rattle.encode.specs.declared.Kind.{Kind}
@@ -9,11 +9,10 @@ use Rattle.plain.specs.Rules.{◌if◌, first_of}
 use Rattle.plain.specs.Plain.{places, plain_number, plain_row}
 use Rattle.nullable.specs.Nullable.{nullable_number, nullable_row}
 use Rattle.rle.specs.RunLength.{runs_in, counts_length, counts_part, inner_part, run_length_number, run_numbers}
-use Rattle.dict.specs.Dictionary.{i32, key_length, entries_in, key_part, entries_part, slot_at, dictionary_number, entry_row}
+use Rattle.dict.specs.Dictionary.{key_length, entries_in, key_part, entries_part, slot_at, dictionary_number, entry_row}
 use Rattle.format.specs.declared.Encoding.{Encoding}
 use Rattle.format.specs.declared.Encoding.TheVariants.{Plain, Nullable, RunLength, RunLengthNullable, Dictionary}
 use Rattle.format.specs.declared.Column.{Column}
-use Rattle.format.specs.declared.Column.TheVariants.{Of, Unknown}
 use Rattle.format.specs.declared.Head.{Head}
 use Rattle.format.specs.Blocks.{column_of}
 
@@ -33,9 +32,10 @@ most_rows RunLength = MOST_ROWS
 most_rows RunLengthNullable = MOST_ROWS
 most_rows Dictionary = MOST_ROWS
 
-unfoldable pub column_number : Column → ℕ → List ℕ → ℕ
-column_number Unknown n b = COLUMN
-column_number (Of k e) n b = first_of (LIMIT if ltb MOST_BYTES (length b) ∷ LIMIT if ltb (most_rows e) n ∷ rules_of k e n b ∷ [])
+unfoldable pub column_number : Option Column → ℕ → List ℕ → ℕ
+column_number None n b = COLUMN
+column_number (Some c) n b =
+    first_of (LIMIT if ltb MOST_BYTES (length b) ∷ LIMIT if ltb (most_rows c.encoding) n ∷ rules_of c.kind c.encoding n b ∷ [])
 
 unfoldable pub open_number : ℕ → ℕ → ℕ → ℕ → List ℕ → ℕ
 open_number kind encoding width n b = column_number (column_of kind encoding width) n b

@@ -3,15 +3,15 @@
 
 ghost use Rattle.std.specs.Prelude.{◌≡◌, ◌≤◌, length};
 ghost use Rattle.limits.specs.Limits.{MOST_BYTES, MOST_ITEMS};
+ghost use Rattle.limits.specs.Refusals.{number_in, by_number};
 ghost use Rattle.rle.specs.RunLength.{run_length_number};
 ghost use Rattle.dict.specs.Dictionary.{dictionary_rules};
-ghost use Rattle.format.specs.Blocks.{column_of};
+ghost use Rattle.format.specs.Blocks.{encoding_of, column_of};
 ghost use Rattle.format.specs.Opening.{most_rows, rules_of, head, head_of};
 ghost use Rattle.format.specs.Found.{found_by, inner_number, runs_head, key_block_number, dictionary_asked};
 
-use encode::{FoundKind, Kind, Primitive};
-use limits::refusal;
-use rle::RunHead;
+use encode::{Kind, Primitive};
+use limits::refusal::Refusal;
 
 // How a column is laid out: encodings 0 to 4.
 #[derive(Clone, Copy)]
@@ -25,9 +25,9 @@ pub enum Encoding {
 
 // What the numbers of a kind, an encoding and a width name together.
 #[derive(Clone, Copy)]
-pub enum Column {
-    Of { kind: Kind, encoding: Encoding },
-    Unknown,
+pub struct Column {
+    pub kind: Kind,
+    pub encoding: Encoding,
 }
 
 // The numbers at the head of a block: of its runs, of the bytes of their counts, of the bytes of its key block and of its entries. Those
@@ -41,44 +41,27 @@ pub struct Head {
     pub entries: usize,
 }
 
-// What a check finds: the head of a sound block, or the refusal.
-#[derive(Clone, Copy)]
-pub enum Found {
-    Sound(Head),
-    Refused(u8),
+// The encoding of a number.
+fn encoding_of(number: usize) -> Option<Encoding>
+    ensures { result ≡ encoding_of number }
+{
+    match number {
+        0 => Some(Encoding::Plain),
+        1 => Some(Encoding::Nullable),
+        2 => Some(Encoding::RunLength),
+        3 => Some(Encoding::RunLengthNullable),
+        4 => Some(Encoding::Dictionary),
+        _ => None,
+    }
 }
 
 // The pair that three numbers name.
-pub fn column_of(kind: usize, encoding: usize, width: usize) -> Column
+pub fn column_of(kind: usize, encoding: usize, width: usize) -> Option<Column>
     ensures { result ≡ column_of kind encoding width }
 {
-    let found = encode::kind_of(kind, width);
-    let FoundKind::Known(k) = found else {
-        return Column::Unknown;
-    };
-    match encoding {
-        0 => Column::Of {
-            kind: k,
-            encoding: Encoding::Plain,
-        },
-        1 => Column::Of {
-            kind: k,
-            encoding: Encoding::Nullable,
-        },
-        2 => Column::Of {
-            kind: k,
-            encoding: Encoding::RunLength,
-        },
-        3 => Column::Of {
-            kind: k,
-            encoding: Encoding::RunLengthNullable,
-        },
-        4 => Column::Of {
-            kind: k,
-            encoding: Encoding::Dictionary,
-        },
-        _ => Column::Unknown,
-    }
+    let kind = encode::kind_of(kind, width)?;
+    let encoding = encoding_of(encoding)?;
+    Some(Column { kind, encoding })
 }
 
 // The most rows that an encoding holds: in the first two every row is a stored item.
@@ -92,25 +75,23 @@ pub fn most_rows(e: Encoding) -> usize
     }
 }
 
-// Sound with nothing at the head, if the number is 0.
-fn bare(number: u8) -> Found
-    ensures { result ≡ found_by number (head 0 0 0 0) }
+// The outcome of a block with nothing at its head.
+fn bare(outcome: Result<(), Refusal>) -> Result<Head, Refusal>
+    ensures { by_number result ≡ found_by (number_in outcome) (head 0 0 0 0) }
 {
-    if number == 0 {
-        return Found::Sound(Head {
-            runs: 0,
-            counts: 0,
-            keys: 0,
-            entries: 0,
-        });
-    }
-    Found::Refused(number)
+    outcome?;
+    Ok(Head {
+        runs: 0,
+        counts: 0,
+        keys: 0,
+        entries: 0,
+    })
 }
 
 // The rules of an inner block of `n` items, plain or nullable.
-fn check_inner(kind: Kind, nullable: bool, n: usize, s: &[u8]) -> u8
+fn check_inner(kind: Kind, nullable: bool, n: usize, s: &[u8]) -> Result<(), Refusal>
     requires { n ≤ MOST_ITEMS }
-    ensures { result ≡ inner_number nullable kind n s.now }
+    ensures { number_in result ≡ inner_number nullable kind n s.now }
 {
     if nullable {
         return nullable::check(kind, n, s);
@@ -119,81 +100,66 @@ fn check_inner(kind: Kind, nullable: bool, n: usize, s: &[u8]) -> u8
 }
 
 // The rules of a run-length block over a plain or a nullable one.
-fn check_runs(kind: Kind, nullable: bool, rows: usize, s: &[u8]) -> Found
+fn check_runs(kind: Kind, nullable: bool, rows: usize, s: &[u8]) -> Result<Head, Refusal>
     requires { length s.now ≤ MOST_BYTES }
-    ensures { result ≡ found_by (run_length_number (inner_number nullable kind) rows s.now) (runs_head s.now) }
+    ensures { by_number result ≡ found_by (run_length_number (inner_number nullable kind) rows s.now) (runs_head s.now) }
 {
-    let head = rle::find_head(rows as u64, s);
-    match head {
-        RunHead::Empty => bare(0),
-        RunHead::Refused(e) => Found::Refused(e),
-        RunHead::Runs { runs, counts } => {
-            let end = 8 + counts;
-            let number = check_inner(kind, nullable, runs, &s[end..]);
-            if number != 0 {
-                return Found::Refused(number);
-            }
-            Found::Sound(Head {
-                runs,
-                counts,
-                keys: 0,
-                entries: 0,
-            })
-        }
-    }
+    let found = rle::find_head(rows as u64, s)?;
+    let Some(head) = found else {
+        return bare(Ok(()));
+    };
+    let end = 8 + head.counts;
+    check_inner(kind, nullable, head.runs, &s[end..])?;
+    Ok(Head {
+        runs: head.runs,
+        counts: head.counts,
+        keys: 0,
+        entries: 0,
+    })
 }
 
 // The rules of a dictionary's key block, and, if that is asked, that each key is null or names one of `entries`.
-fn check_keys(asked: bool, rows: usize, s: &[u8], entries: usize) -> Found
+fn check_keys(asked: bool, rows: usize, s: &[u8], entries: usize) -> Result<Head, Refusal>
     requires { length s.now ≤ MOST_BYTES }
-    ensures { result ≡ found_by (key_block_number asked rows entries s.now) (runs_head s.now) }
+    ensures { by_number result ≡ found_by (key_block_number asked rows entries s.now) (runs_head s.now) }
 {
-    let found = check_runs(Kind::Fixed(Primitive::I32), false, rows, s);
-    let Found::Sound(head) = found else {
-        return found;
-    };
+    let head = check_runs(Kind::Fixed(Primitive::I32), false, rows, s)?;
     // no runs, no keys
     if head.runs == 0 {
-        return found;
+        return Ok(head);
     }
     if !asked {
-        return found;
+        return Ok(head);
     }
     let end = 8 + head.counts;
     if dict::known(&s[end..], head.runs, entries) {
-        return found;
+        return Ok(head);
     }
-    Found::Refused(refusal::KEY)
+    Err(Refusal::Key)
 }
 
 // The rules of a dictionary block; that of its keys only if it is asked.
-fn check_dictionary(asked: bool, kind: Kind, rows: usize, s: &[u8]) -> Found
+fn check_dictionary(asked: bool, kind: Kind, rows: usize, s: &[u8]) -> Result<Head, Refusal>
     requires { length s.now ≤ MOST_BYTES }
-    ensures { result ≡ found_by (dictionary_asked asked kind rows s.now) (head_of Encoding.Dictionary s.now) }
+    ensures { by_number result ≡ found_by (dictionary_asked asked kind rows s.now) (head_of Encoding.Dictionary s.now) }
 {
     let n = s.len();
     if n < 12 {
-        return Found::Refused(refusal::CUT);
+        return Err(Refusal::Cut);
     }
     let entries = dict::entries_in(s);
     if limits::MOST_ENTRIES < entries {
-        return Found::Refused(refusal::LIMIT);
+        return Err(Refusal::Limit);
     }
     // 12 is taken off the length and not added to the key block's, which can be near 2^64
     let keys = dict::key_len(s) as usize;
     if n - 12 < keys {
-        return Found::Refused(refusal::CUT);
+        return Err(Refusal::Cut);
     }
     let end = 12 + keys;
-    let found = check_keys(asked, rows, &s[12..end], entries);
-    let Found::Sound(head) = found else {
-        return found;
-    };
-    let number = plain::check(kind, entries, &s[end..]);
-    if number != 0 {
-        return Found::Refused(number);
-    }
-    Found::Sound(Head {
+    let head = check_keys(asked, rows, &s[12..end], entries)?;
+    plain::check(kind, entries, &s[end..])?;
+    Ok(Head {
         runs: head.runs,
         counts: head.counts,
         keys,
@@ -201,10 +167,10 @@ fn check_dictionary(asked: bool, kind: Kind, rows: usize, s: &[u8]) -> Found
     })
 }
 
-// The rules of a column.
-pub fn check(kind: Kind, encoding: Encoding, rows: usize, s: &[u8]) -> Found
+// The rules of a column: the head of a sound block, or the refusal.
+pub fn check(kind: Kind, encoding: Encoding, rows: usize, s: &[u8]) -> Result<Head, Refusal>
     requires { (length s.now ≤ MOST_BYTES) × (rows ≤ most_rows encoding) }
-    ensures { result ≡ found_by (rules_of kind encoding rows s.now) (head_of encoding s.now) }
+    ensures { by_number result ≡ found_by (rules_of kind encoding rows s.now) (head_of encoding s.now) }
 {
     match encoding {
         Encoding::Plain => bare(plain::check(kind, rows, s)),
@@ -216,9 +182,9 @@ pub fn check(kind: Kind, encoding: Encoding, rows: usize, s: &[u8]) -> Found
 }
 
 // The rules of a dictionary block as if every key were good.
-pub fn check_but_keys(kind: Kind, rows: usize, s: &[u8]) -> Found
+pub fn check_but_keys(kind: Kind, rows: usize, s: &[u8]) -> Result<Head, Refusal>
     requires { length s.now ≤ MOST_BYTES }
-    ensures { result ≡ found_by (dictionary_rules 0 kind rows s.now) (head_of Encoding.Dictionary s.now) }
+    ensures { by_number result ≡ found_by (dictionary_rules 0 kind rows s.now) (head_of Encoding.Dictionary s.now) }
 {
     check_dictionary(false, kind, rows, s)
 }

@@ -1,4 +1,5 @@
 -- One of two columns that are walked in step: the runs that were taken of it, of the last of which some rows are still to be compared. Assumes nothing.
+use Rattle.std.specs.Prelude.{Some}
 use Prim.Native.Nat.{ℕ, ◌+◌, ◌-◌, ◌≤◌, ◌<◌}
 use native.Mathlib.Omega.{arith}
 use mathlib.Core.Bool.{true}
@@ -9,8 +10,7 @@ use Rattle.limits.specs.Limits.{MOST_ITEMS}
 use Rattle.plain.specs.Rows.{Row}
 use Rattle.plain.specs.Plain.{ends_good}
 use Rattle.rle.specs.declared.Spot.{Spot}
-use Rattle.rle.specs.declared.Piece.TheVariants.{Rows}
-use Rattle.rle.specs.Pieces.{step_runs}
+use Rattle.rle.specs.Pieces.{step_runs, run_piece}
 use Rattle.rle.proofs.Folds.{map-replicate}
 use Rattle.dict.specs.Dictionary.{entry_row}
 use Rattle.source.specs.declared.Source.{Source}
@@ -77,8 +77,8 @@ module _ {s : Source} {counts marks items : List ℕ} {n : ℕ} {front : List �
     pub side-good : Walks s counts marks items n → Good (good_by s marks items) x.next.run (piece_of s counts x.next left)
     side-good w = rw all-untaken (progress-piece f.progress some w.writes)
 
-    module _ (y : ShownRun) (piece : piece_of s counts x.next left ≡ Rows y.rows y.next) where
-      here : piece_of s counts x.next f.untaken ≡ Rows y.rows y.next
+    module _ (y : ShownRun) (piece : piece_of s counts x.next left ≡ Some (run_piece y.rows y.next)) where
+      here : piece_of s counts x.next f.untaken ≡ Some (run_piece y.rows y.next)
       here = rw all-untaken at piece
 
       pub side-less : left - y.rows + (s.runs - y.next.run) < left + (s.runs - x.next.run)

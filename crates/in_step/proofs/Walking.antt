@@ -1,7 +1,7 @@
 -- What holds at each turn of the walk over two columns. Assumes nothing.
 use Prim.Native.Nat.{ℕ, ◌+◌, ◌-◌, ◌≤◌, ◌<◌, ◌^◌}
 use native.Mathlib.Omega.{arith}
-use mathlib.Core.Bool.{Bool, false, not}
+use mathlib.Core.Bool.{Bool, not}
 use mathlib.Core.List.{List, [], ◌++◌, map}
 use mathlib.Core.Path.{◌≡◌, sym, ap, ◌∙◌}
 use lib.ListN.{length, replicate, length-map}
@@ -17,6 +17,7 @@ use Rattle.ranges.specs.Recording.{mark, added, firsts_added, lasts_added, Recor
 use Rattle.ranges.proofs.Recording.{length-put, recorded-start, recorded-add}
 use Rattle.in_step.specs.Differences.{differences}
 use Rattle.in_step.specs.Walking.{first, rows_walked, Walks}
+use Rattle.std.specs.Prelude.{None}
 use Rattle.in_step.proofs.Lists.{differences-append, differences-replicate, length-differences}
 use Rattle.in_step.proofs.Sides.{shown, Side, side-start, side-long, side-end, side-take, side-rows}
 
@@ -35,7 +36,7 @@ module _ (a : Source) (a-counts a-marks a-items : List ℕ) (b : Source) (b-coun
     pub recorded : Recorded (differences (map a-row a-front) (map b-row b-front)) m firsts₀ lasts₀ firsts lasts
 
   pub walking_start :
-      Walks a a-counts a-marks a-items n → Walks b b-counts b-marks b-items n → {m : Mark} → m ≡ mark false 0 0 0
+      Walks a a-counts a-marks a-items n → Walks b b-counts b-marks b-items n → {m : Mark} → m ≡ mark None 0 0
       → {x y : ShownRun} → x ≡ shown 0 0 first → y ≡ shown 0 0 first → Walking firsts₀ lasts₀ m n x y
   unfolding differences
   walking_start w v m x y = record {

@@ -1,12 +1,12 @@
 // Plain columns of a fixed kind walked in step, item by item: each row is one, and none is null.
-ghost use Rattle.std.specs.Prelude.{◌*◌, ◌≤◌, length};
-ghost use Rattle.limits.specs.Limits.{MOST_ITEMS};
+ghost use Rattle.std.specs.Prelude.{◌≡◌, true, ◌*◌, ◌≤◌, length};
+ghost use Rattle.limits.specs.Limits.{MOST_ITEMS, is_width};
 ghost use Rattle.encode.specs.declared.Kind.TheVariants.{Fixed};
 ghost use Rattle.encode.specs.declared.Primitive.TheVariants.{Bool as Boolean};
 ghost use Rattle.plain.specs.Plain.{least_bytes};
 ghost use Rattle.matching.specs.Matching.{equal_at, word_at};
 ghost use Rattle.in_step.specs.Differences.{differences};
-ghost use Rattle.in_step.specs.Walking.{items_walked, unequal_by};
+ghost use Rattle.in_step.specs.Walking.{items_walked, Tested};
 ghost use Rattle.ranges.specs.Recording.{Recorded};
 
 use encode::{Primitive, Shape};
@@ -27,69 +27,39 @@ pub fn walk_items(
     let shape = p.shape();
     match shape {
         Shape::Bool => walk_bools(a, b, n, firsts, lasts),
-        Shape::Low2 => walk_two(a, b, n, firsts, lasts),
-        Shape::Low4 | Shape::High4 => walk_four(a, b, n, firsts, lasts),
-        Shape::Low8 | Shape::High8 => walk_eight(a, b, n, firsts, lasts),
+        Shape::Low2 => walk_words::<2>(a, b, n, firsts, lasts),
+        Shape::Low4 | Shape::High4 => walk_words::<4>(a, b, n, firsts, lasts),
+        Shape::Low8 | Shape::High8 => walk_words::<8>(a, b, n, firsts, lasts),
     }
 }
 
-// The walk of each width. A loop for each asks for no kind.
+// The walk of bytes, and that of items of `W` bytes. A loop for each width asks for no kind.
 fn walk_bools(a: &[u8], b: &[u8], n: usize, firsts: &mut [usize], lasts: &mut [usize]) -> Mark
     requires { (n ≤ length a.now) × (n ≤ length b.now) }
-    ensures { Recorded (unequal_by (equal_at Boolean a.now b.now) n)
-        result firsts.old lasts.old firsts.new lasts.new }
+    ensures { Tested (λ i same. same ≡ equal_at Boolean a.now b.now i) firsts.old lasts.old firsts.new lasts.new result n }
 {
     let mut mark = ranges::start();
-    let mut i = 0;
-    while i < n {
+    for i in 0..n {
         let same = matching::same_bool(a, b, i);
         mark = mark.add_one(!same, firsts, lasts);
-        i += 1;
     }
     mark
 }
 
-fn walk_two(a: &[u8], b: &[u8], n: usize, firsts: &mut [usize], lasts: &mut [usize]) -> Mark
-    requires { (n ≤ MOST_ITEMS) × (n * 2 ≤ length a.now) × (n * 2 ≤ length b.now) }
-    ensures { Recorded (unequal_by (word_at 2 a.now b.now) n)
-        result firsts.old lasts.old firsts.new lasts.new }
+fn walk_words<const W: usize>(
+    a: &[u8],
+    b: &[u8],
+    n: usize,
+    firsts: &mut [usize],
+    lasts: &mut [usize],
+) -> Mark
+    requires { (is_width W ≡ true) × (n ≤ MOST_ITEMS) × (n * W ≤ length a.now) × (n * W ≤ length b.now) }
+    ensures { Tested (λ i same. same ≡ word_at W a.now b.now i) firsts.old lasts.old firsts.new lasts.new result n }
 {
     let mut mark = ranges::start();
-    let mut i = 0;
-    while i < n {
-        let same = matching::same_two(a, b, i);
+    for i in 0..n {
+        let same = matching::same_word::<W>(a, b, i);
         mark = mark.add_one(!same, firsts, lasts);
-        i += 1;
-    }
-    mark
-}
-
-fn walk_four(a: &[u8], b: &[u8], n: usize, firsts: &mut [usize], lasts: &mut [usize]) -> Mark
-    requires { (n ≤ MOST_ITEMS) × (n * 4 ≤ length a.now) × (n * 4 ≤ length b.now) }
-    ensures { Recorded (unequal_by (word_at 4 a.now b.now) n)
-        result firsts.old lasts.old firsts.new lasts.new }
-{
-    let mut mark = ranges::start();
-    let mut i = 0;
-    while i < n {
-        let same = matching::same_four(a, b, i);
-        mark = mark.add_one(!same, firsts, lasts);
-        i += 1;
-    }
-    mark
-}
-
-fn walk_eight(a: &[u8], b: &[u8], n: usize, firsts: &mut [usize], lasts: &mut [usize]) -> Mark
-    requires { (n ≤ MOST_ITEMS) × (n * 8 ≤ length a.now) × (n * 8 ≤ length b.now) }
-    ensures { Recorded (unequal_by (word_at 8 a.now b.now) n)
-        result firsts.old lasts.old firsts.new lasts.new }
-{
-    let mut mark = ranges::start();
-    let mut i = 0;
-    while i < n {
-        let same = matching::same_eight(a, b, i);
-        mark = mark.add_one(!same, firsts, lasts);
-        i += 1;
     }
     mark
 }

@@ -35,50 +35,35 @@ pub fn walk(
         (differences (rows_walked a counts.now marks.now items.now n) (rows_walked b counts2.now marks2.now items2.now n))
         result firsts.old lasts.old firsts.new lasts.new }
 {
-    let way = way_of(a);
-    let Way::Items(p) = way else {
-        return walk_runs(
-            a, counts, marks, items, b, counts2, marks2, items2, n, firsts, lasts,
-        );
-    };
-    let other = way_of(b);
-    match other {
-        Way::Items(_) => walk_items(p, items, items2, n, firsts, lasts),
-        Way::Runs => walk_runs(
+    match (way_of(a), way_of(b)) {
+        (Some(p), Some(_)) => walk_items(p, items, items2, n, firsts, lasts),
+        _ => walk_runs(
             a, counts, marks, items, b, counts2, marks2, items2, n, firsts, lasts,
         ),
     }
 }
 
-// How a column is walked: item by item of a fixed kind, where each row is one and none is null, or run by run.
-#[derive(Clone, Copy)]
-enum Way {
-    Items(Primitive),
-    Runs,
-}
-
-fn way_of(s: Source) -> Way
+// How a column is walked: item by item of a fixed kind, where each row is one and none is null; or, by None, run by run.
+#[tactic(auto, unfolding(crate::specs::Walking::way_in))]
+fn way_of(s: Source) -> Option<Primitive>
     ensures { result ≡ way_in s.coded s.marks s.kind }
 {
     if s.coded {
-        return Way::Runs;
+        return None;
     }
-    let by = s.marks;
-    let kind = s.kind;
-    match by {
-        Marks::Bare => way_by(kind),
-        Marks::Bits => Way::Runs,
-        Marks::Keys => Way::Runs,
+    match s.marks {
+        Marks::Bare => way_by(s.kind),
+        Marks::Bits | Marks::Keys => None,
     }
 }
 
-fn way_by(kind: Kind) -> Way
+#[tactic(auto, unfolding(crate::specs::Walking::way_by))]
+fn way_by(kind: Kind) -> Option<Primitive>
     ensures { result ≡ way_by kind }
 {
     match kind {
-        Kind::Fixed(p) => Way::Items(p),
-        Kind::Char(_) => Way::Runs,
-        Kind::Blob(_) => Way::Runs,
+        Kind::Fixed(p) => Some(p),
+        Kind::Char(_) | Kind::Blob(_) => None,
     }
 }
 
@@ -97,6 +82,7 @@ fn none_yet() -> ShownRun
     }
 }
 
+// This loop goes on by the runs of both columns, which are of varying length.
 fn walk_runs(
     a: Source,
     counts: &[u8],

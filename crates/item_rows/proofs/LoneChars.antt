@@ -5,7 +5,7 @@ use mathlib.Core.Path.{◌≡◌, sym, ap, ◌∙◌, fun_ext}
 use mathlib.Core.List.{List, map}
 use lib.ListN.{length, replicate}
 use lib.Seq.{sets}
-use Rattle.plain.specs.Rows.{bytes, bytes_in}
+use Rattle.plain.specs.Rows.{bytes_in}
 use Rattle.plain.specs.Plain.{places, joined, ends_from, char_at, plain_row, least_bytes, ends_good}
 use Rattle.rle.specs.declared.Spot.{Spot}
 use Rattle.rle.specs.Stepping.{spot}
@@ -16,7 +16,7 @@ use Rattle.source.proofs.AtPlace.{sizes}
 use Rattle.weigh.proofs.Weights.{capped_small}
 use Rattle.anatomy.specs.declared.Parts.{Parts}
 use Rattle.anatomy.specs.Parts.{marks_in, items_in}
-use Rattle.part_rows.specs.PartRows.{places_in, good_in, size_in, text_in, flags_given, ends_given, bytes_given, weight_given, Serves}
+use Rattle.part_rows.specs.PartRows.{places_in, size_in, text_in, flags_given, ends_given, bytes_given, weight_given, Serves}
 use Rattle.item_rows.specs.Alone.{Alone}
 use Rattle.part_rows.proofs.Places.{Read, writes}
 use Rattle.part_rows.proofs.FlagRows.{bare-flags, alone-runs}

@@ -1,5 +1,6 @@
 -- The refusal numbers of 01 and 02, by name; 0 is done. Assumes nothing.
-use Rattle.std.specs.Prelude.{ℕ}
+use Rattle.std.specs.Prelude.{ℕ, Result, Ok, Err}
+use Rattle.limits.specs.declared.refusal.Refusal.{Refusal}
 
 -- kind, encoding or width not as 01 has them
 abbrev pub COLUMN : ℕ
@@ -76,3 +77,35 @@ OUTSIDE = 22
 -- kinds or widths of two blocks that are compared differ
 abbrev pub UNLIKE : ℕ
 UNLIKE = 25
+
+-- the number of a refusal
+abbrev pub refusal_number : Refusal → ℕ
+refusal_number Refusal.Column = COLUMN
+refusal_number Refusal.Item = ITEM
+refusal_number Refusal.Limit = LIMIT
+refusal_number Refusal.Room = ROOM
+refusal_number Refusal.NoRows = NO_ROWS
+refusal_number Refusal.TooFar = TOO_FAR
+refusal_number Refusal.Disagree = DISAGREE
+refusal_number Refusal.Cut = CUT
+refusal_number Refusal.Length = LENGTH
+refusal_number Refusal.Varint = VARINT
+refusal_number Refusal.Counts = COUNTS
+refusal_number Refusal.Ends = ENDS
+refusal_number Refusal.Key = KEY
+refusal_number Refusal.Sum = SUM
+refusal_number Refusal.Text = TEXT
+refusal_number Refusal.NoColumn = NO_COLUMN
+refusal_number Refusal.Sheet = SHEET
+refusal_number Refusal.Outside = OUTSIDE
+refusal_number Refusal.Unlike = UNLIKE
+
+-- the number of an outcome: that of its refusal, or 0
+abbrev pub number_in : {A : Type 0} → Result A Refusal → ℕ
+number_in (Ok x) = 0
+number_in (Err e) = refusal_number e
+
+-- an outcome with the number in place of the refusal
+abbrev pub by_number : {A : Type 0} → Result A Refusal → Result A ℕ
+by_number (Ok x) = Ok x
+by_number (Err e) = Err (refusal_number e)

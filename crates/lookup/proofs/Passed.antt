@@ -12,8 +12,7 @@ use Rattle.encode.specs.declared.Kind.TheVariants.{Fixed}
 use Rattle.encode.specs.declared.Primitive.{Primitive}
 use Rattle.plain.specs.Rows.{Row, int, same_int, same}
 use Rattle.plain.specs.Plain.{places, fixed_at}
-use Rattle.lookup.specs.declared.Looked.{Looked}
-use Rattle.lookup.specs.declared.Looked.TheVariants.{Entry, Bad}
+use Rattle.std.specs.Prelude.{Option, Some, None}
 use Rattle.lookup.specs.Held.{Held, held_row, field_wrong, look_from, look_up}
 use Rattle.lookup.specs.First.{first_at, first_value}
 
@@ -82,23 +81,23 @@ looking-start k n len h row = record { passed = passed_start (look_from k n len 
 
 module _ {k : Kind} {n len : ℕ} {h : Held} {row : Row} {i : ℕ} (g : Looking k n len h row i) where
   module _ (l : i < n) where
-    pub looking-wrong : field_wrong k n len h i ≡ true → Bad ≡ look_up k n len h row
+    pub looking-wrong : field_wrong k n len h i ≡ true → None ≡ look_up k n len h row
     unfolding look_up look_from
-    looking-wrong w = passed-stop g.passed l (λ is. ap (λ (t : Bool). cond t Bad (cond (same row (held_row k h i)) (Entry i) (look_from k n len h row is))) (sym w))
+    looking-wrong w = passed-stop g.passed l (λ is. ap (λ (t : Bool). cond t None (cond (same row (held_row k h i)) (Some i) (look_from k n len h row is))) (sym w))
 
     module _ (w : field_wrong k n len h i ≡ false) where
-      good : (is : List ℕ) → look_from k n len h row (i ∷ is) ≡ cond (same row (held_row k h i)) (Entry i) (look_from k n len h row is)
+      good : (is : List ℕ) → look_from k n len h row (i ∷ is) ≡ cond (same row (held_row k h i)) (Some i) (look_from k n len h row is)
       unfolding look_from
-      good is = ap (λ (t : Bool). cond t Bad (cond (same row (held_row k h i)) (Entry i) (look_from k n len h row is))) w
+      good is = ap (λ (t : Bool). cond t None (cond (same row (held_row k h i)) (Some i) (look_from k n len h row is))) w
 
-      pub looking-here : same row (held_row k h i) ≡ true → Entry i ≡ look_up k n len h row
+      pub looking-here : same row (held_row k h i) ≡ true → Some i ≡ look_up k n len h row
       unfolding look_up
-      looking-here s = passed-stop g.passed l (λ is. sym (good is ∙ ap (λ (t : Bool). cond t (Entry i) (look_from k n len h row is)) s))
+      looking-here s = passed-stop g.passed l (λ is. sym (good is ∙ ap (λ (t : Bool). cond t (Some i) (look_from k n len h row is)) s))
 
       pub looking-step : same row (held_row k h i) ≡ false → Looking k n len h row (i + 1)
-      looking-step s = record { passed = passed-step g.passed l (λ is. good is ∙ ap (λ (t : Bool). cond t (Entry i) (look_from k n len h row is)) s) }
+      looking-step s = record { passed = passed-step g.passed l (λ is. good is ∙ ap (λ (t : Bool). cond t (Some i) (look_from k n len h row is)) s) }
 
-  pub looking-end : n ≤ i → Entry n ≡ look_up k n len h row
+  pub looking-end : n ≤ i → Some n ≡ look_up k n len h row
   unfolding look_up look_from
   looking-end e = passed-end g.passed e
 
@@ -109,9 +108,9 @@ look-alike :
 unfolding look_from
 look-alike k k' n len len' h h' row w r [] = refl
 look-alike k k' n len len' h h' row w r (i ∷ is) =
-    ap (λ (x : Bool). cond x Bad (cond (same row (held_row k h i)) (Entry i) (look_from k n len h row is))) (w i)
-    ∙ ap (λ (y : Row). cond (field_wrong k' n len' h' i) Bad (cond (same row y) (Entry i) (look_from k n len h row is))) (r i)
-    ∙ ap (λ (z : Looked). cond (field_wrong k' n len' h' i) Bad (cond (same row (held_row k' h' i)) (Entry i) z)) (look-alike k k' n len len' h h' row w r is)
+    ap (λ (x : Bool). cond x None (cond (same row (held_row k h i)) (Some i) (look_from k n len h row is))) (w i)
+    ∙ ap (λ (y : Row). cond (field_wrong k' n len' h' i) None (cond (same row y) (Some i) (look_from k n len h row is))) (r i)
+    ∙ ap (λ (z : Option ℕ). cond (field_wrong k' n len' h' i) None (cond (same row (held_row k' h' i)) (Some i) z)) (look-alike k k' n len len' h h' row w r is)
 
 pub up-alike :
     (k k' : Kind) (n len len' : ℕ) (h h' : Held) (row : Row) → ((i : ℕ) → field_wrong k n len h i ≡ field_wrong k' n len' h' i)
@@ -121,16 +120,16 @@ up-alike k k' n len len' h h' row w r = look-alike k k' n len len' h h' row w r 
 
 -- no field of a fixed kind is wrong: the lookup is the first item of the value
 from_first : (p : Primitive) (n len : ℕ) (h : Held) (v : ℤ) (is : List ℕ)
-    → Entry (first_at (λ (i : ℕ). same_int v (fixed_at p h.items i)) n is) ≡ look_from (Fixed p) n len h (int v) is
+    → Some (first_at (λ (i : ℕ). same_int v (fixed_at p h.items i)) n is) ≡ look_from (Fixed p) n len h (int v) is
 unfolding look_from first_at field_wrong held_row same
 from_first p n len h v [] = refl
 from_first p n len h v (i ∷ is) = by (same_int v (fixed_at p h.items i)) (from_first p n len h v is)
   where
-    by : (t : Bool) → Entry (first_at (λ (j : ℕ). same_int v (fixed_at p h.items j)) n is) ≡ look_from (Fixed p) n len h (int v) is
-        → Entry (cond t i (first_at (λ (j : ℕ). same_int v (fixed_at p h.items j)) n is)) ≡ cond t (Entry i) (look_from (Fixed p) n len h (int v) is)
+    by : (t : Bool) → Some (first_at (λ (j : ℕ). same_int v (fixed_at p h.items j)) n is) ≡ look_from (Fixed p) n len h (int v) is
+        → Some (cond t i (first_at (λ (j : ℕ). same_int v (fixed_at p h.items j)) n is)) ≡ cond t (Some i) (look_from (Fixed p) n len h (int v) is)
     by true q = refl
     by false q = q
 
-pub up_first : (p : Primitive) (n len : ℕ) (h : Held) (v : ℤ) → Entry (first_value p h.items n v) ≡ look_up (Fixed p) n len h (int v)
+pub up_first : (p : Primitive) (n len : ℕ) (h : Held) (v : ℤ) → Some (first_value p h.items n v) ≡ look_up (Fixed p) n len h (int v)
 unfolding look_up first_value
 up_first p n len h v = from_first p n len h v (places n 0)

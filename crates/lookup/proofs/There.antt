@@ -17,8 +17,7 @@ use Rattle.limits.specs.Limits.{MOST_ITEMS}
 use Rattle.plain.specs.Rows.{bytes, value_of, same_int, same_bytes, same}
 use Rattle.plain.specs.Plain.{fixed_at}
 use Rattle.plain.proofs.Items.{item_room}
-use Rattle.lookup.specs.declared.Looked.{Looked}
-use Rattle.lookup.specs.declared.Looked.TheVariants.{Entry}
+use Rattle.std.specs.Prelude.{Option, Some}
 use Rattle.lookup.specs.Held.{Held, held, item_end, item_start, held_row, field_wrong, look_up}
 use Rattle.lookup.specs.Asking.{FieldsThere, BytesThere, ItemThere}
 use Rattle.lookup.specs.First.{first_value}
@@ -80,9 +79,9 @@ module _ {k : Kind} (p : Primitive) (e : k ≡ Fixed p) where
   unfolding same value_of held_row
   fixed_same h i v bs {x} q = subst (λ (j : Kind). x ≡ same (value_of j v bs) (held_row j h i)) (sym e) q
 
-  pub fixed-up : (n len : ℕ) (h : Held) (v : ℤ) (bs : List ℕ) {r : ℕ} → r ≡ first_value p h.items n v → Entry r ≡ look_up k n len h (value_of k v bs)
+  pub fixed-up : (n len : ℕ) (h : Held) (v : ℤ) (bs : List ℕ) {r : ℕ} → r ≡ first_value p h.items n v → Some r ≡ look_up k n len h (value_of k v bs)
   unfolding value_of
-  fixed-up n len h v bs {r} q = subst (λ (j : Kind). Entry r ≡ look_up j n len h (value_of j v bs)) (sym e) (ap Entry q ∙ up_first p n len h v)
+  fixed-up n len h v bs {r} q = subst (λ (j : Kind). Some r ≡ look_up j n len h (value_of j v bs)) (sym e) (ap Some q ∙ up_first p n len h v)
 
 -- ---- char, which has no ends
 module _ {k : Kind} (w : ℕ) (e : k ≡ Char w) where
@@ -107,7 +106,7 @@ module _ {k : Kind} (w : ℕ) (e : k ≡ Char w) where
     unfolding value_of held_row
     char-same i {x} q = subst (λ (j : Kind). x ≡ same (value_of j v bs) (held_row j (held is es ls) i)) (sym e) q
 
-    pub char_up : (n len : ℕ) {x : Looked} → x ≡ look_up (Char w) n 0 (held is [] ls) (bytes bs) → x ≡ look_up k n len (held is es ls) (value_of k v bs)
+    pub char_up : (n len : ℕ) {x : Option ℕ} → x ≡ look_up (Char w) n 0 (held is [] ls) (bytes bs) → x ≡ look_up k n len (held is es ls) (value_of k v bs)
     unfolding value_of field_wrong held_row
     char_up n len {x} q =
         subst (λ (j : Kind). x ≡ look_up j n len (held is es ls) (value_of j v bs)) (sym e)
@@ -184,7 +183,7 @@ module _ {k : Kind} {text : Bool} (e : k ≡ Blob text) where
     unfolding value_of held_row
     blob-same i {x} q = subst (λ (j : Kind). x ≡ same (value_of j v bs) (held_row j (held is es ls) i)) (sym e) q
 
-    pub blob-up : (n len : ℕ) {x : Looked} → x ≡ look_up blob n len (held is es []) (bytes bs) → x ≡ look_up k n len (held is es ls) (value_of k v bs)
+    pub blob-up : (n len : ℕ) {x : Option ℕ} → x ≡ look_up blob n len (held is es []) (bytes bs) → x ≡ look_up k n len (held is es ls) (value_of k v bs)
     unfolding value_of field_wrong held_row
     blob-up n len {x} q =
         subst (λ (j : Kind). x ≡ look_up j n len (held is es ls) (value_of j v bs)) (sym e)

@@ -1,11 +1,9 @@
 -- 01, "Building": stored items in lent memory, as appends left them there: each as it was given, its fields, and the lookup over them. Assumes nothing.
-use Rattle.std.specs.Prelude.{ℕ, zero, suc, ◌-◌, ◌*◌, Bool, true, false, cond, not, ◌&&◌, ◌||◌, List, [], ◌∷◌, ltb, eqb, take, drop, get_or}
+use Rattle.std.specs.Prelude.{Option, Some, None, ℕ, zero, suc, ◌-◌, ◌*◌, Bool, false, cond, not, ◌&&◌, ◌||◌, List, [], ◌∷◌, ltb, eqb, take, drop, get_or}
 use Rattle.encode.specs.declared.Kind.{Kind}
 use Rattle.encode.specs.declared.Kind.TheVariants.{Fixed, Char, Blob}
 use Rattle.plain.specs.Rows.{Row, int, bytes, same}
 use Rattle.plain.specs.Plain.{places, fixed_at}
-use Rattle.lookup.specs.declared.Looked.{Looked}
-use Rattle.lookup.specs.declared.Looked.TheVariants.{Entry, Bad}
 
 -- what holds the items: their bytes, the blob ends and the char lengths
 pub record Held : Type 0 where
@@ -40,12 +38,12 @@ field_wrong (Blob text) n len h i =
     || eqb (suc i) n && not (eqb (item_end h.ends i) len)
 
 -- the first of n items that equals the row; a row that is new becomes the next. A wrong field of an item up to there is found too.
-unfoldable pub look_from : Kind → ℕ → ℕ → Held → Row → List ℕ → Looked
-look_from k n len h row [] = Entry n
+unfoldable pub look_from : Kind → ℕ → ℕ → Held → Row → List ℕ → Option ℕ
+look_from k n len h row [] = Some n
 look_from k n len h row (i ∷ is) =
-    cond (field_wrong k n len h i) Bad
-    (cond (same row (held_row k h i)) (Entry i)
+    cond (field_wrong k n len h i) None
+    (cond (same row (held_row k h i)) (Some i)
     (look_from k n len h row is))
 
-unfoldable pub look_up : Kind → ℕ → ℕ → Held → Row → Looked
+unfoldable pub look_up : Kind → ℕ → ℕ → Held → Row → Option ℕ
 look_up k n len h row = look_from k n len h row (places n 0)

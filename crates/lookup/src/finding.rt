@@ -1,15 +1,16 @@
 // Equality as given, and the lookup over the entries.
-ghost use Rattle.std.specs.Prelude.{◌≡◌, cond, [], ◌+◌, ◌*◌, ◌≤◌, ltb, length, take, drop};
+ghost use Rattle.std.specs.Prelude.{◌≡◌, ◌≢◌, true, cond, [], ◌+◌, ◌*◌, ◌≤◌, ltb, length, take, drop};
+ghost use Rattle.encode.specs.Bytes.{number};
 ghost use Rattle.encode.specs.Kinds.{blob};
 ghost use Rattle.encode.specs.declared.Kind.TheVariants.{Char};
 ghost use Rattle.encode.specs.Kinds.{width_of, true_or_false};
-ghost use Rattle.limits.specs.Limits.{MOST_ITEMS};
+ghost use Rattle.limits.specs.Limits.{MOST_ITEMS, is_width};
 ghost use Rattle.plain.specs.Rows.{value_of, bytes, same, same_bytes};
 ghost use Rattle.lookup.specs.Held.{held, item_start, held_row, look_up};
 ghost use Rattle.lookup.specs.First.{first_value, first_number};
 ghost use Rattle.lookup.specs.Asking.{FieldsThere, BytesThere, ItemThere};
 
-use crate::{Looked, fields};
+use crate::fields;
 use encode::{Kind, Primitive, Shape};
 
 // ---- equal as given
@@ -19,12 +20,10 @@ fn same_as(s: &[u8], from: usize, t: &[u8]) -> bool
     requires { from + length t.now ≤ length s.now }
     ensures { result ≡ same_bytes t.now (take (length t.now) (drop from s.now)) }
 {
-    let mut i = 0;
-    while i < t.len() {
+    for i in 0..t.len() {
         if s[from + i] != t[i] {
             return false;
         }
-        i += 1;
     }
     true
 }
@@ -77,66 +76,45 @@ pub fn same_item(
 
 // ---- the entries
 
-// The first of `n` items that is `want`, or `n`: a bool, of which any nonzero byte is true; items of two bytes; of four; of
-// eight. The bytes are compared as one number, lowest first, whatever their order, and a loop for each width asks for no kind.
+// The first of `n` bools that is `want`, or `n`: any nonzero byte is true.
 fn find_bool(items: &[u8], n: usize, want: bool) -> usize
     requires { n ≤ length items.now }
     ensures { result ≡ first_value Primitive.Bool items.now n (true_or_false want) }
 {
-    let mut i = 0;
-    while i < n {
+    for i in 0..n {
         if (items[i] != 0) == want {
             return i;
         }
-        i += 1;
     }
     n
 }
 
-fn find_two(items: &[u8], n: usize, want: u64) -> usize
-    requires { n * 2 ≤ length items.now }
-    ensures { result ≡ first_number 2 items.now n want }
+// The number of the first `W` of eight bytes, lowest first.
+fn low<const W: usize>(item: [u8; 8]) -> u64
+    requires { W ≢ 2 → W ≢ 4 → W ≡ 8 }
+    ensures { result ≡ number (take W item) }
 {
-    let mut at = 0;
-    let mut i = 0;
-    while i < n {
-        if encode::low2(plain::item(items, at, 2)) == want {
-            return i;
-        }
-        at += 2;
-        i += 1;
+    if W == 2 {
+        return encode::low::<2>(item);
     }
-    n
+    if W == 4 {
+        return encode::low::<4>(item);
+    }
+    encode::low::<8>(item)
 }
 
-fn find_four(items: &[u8], n: usize, want: u64) -> usize
-    requires { n * 4 ≤ length items.now }
-    ensures { result ≡ first_number 4 items.now n want }
+// The first of `n` items of `W` bytes that have the number `want`, or `n`. The bytes are compared as one number, lowest first, whatever
+// their order, and the loop asks for no kind.
+fn find_number<const W: usize>(items: &[u8], n: usize, want: u64) -> usize
+    requires { (is_width W ≡ true) × (W ≢ 2 → W ≢ 4 → W ≡ 8) × (n * W ≤ length items.now) }
+    ensures { result ≡ first_number W items.now n want }
 {
     let mut at = 0;
-    let mut i = 0;
-    while i < n {
-        if encode::low4(plain::item(items, at, 4)) == want {
+    for i in 0..n {
+        if low::<W>(plain::item(items, at, W)) == want {
             return i;
         }
-        at += 4;
-        i += 1;
-    }
-    n
-}
-
-fn find_eight(items: &[u8], n: usize, want: u64) -> usize
-    requires { n * 8 ≤ length items.now }
-    ensures { result ≡ first_number 8 items.now n want }
-{
-    let mut at = 0;
-    let mut i = 0;
-    while i < n {
-        if encode::low8(plain::item(items, at, 8)) == want {
-            return i;
-        }
-        at += 8;
-        i += 1;
+        at += W;
     }
     n
 }
@@ -155,9 +133,9 @@ pub fn find_fixed(p: Primitive, items: &[u8], n: usize, value: i64) -> usize
             let item = p.encode(value);
             find_bool(items, n, item[0] != 0)
         }
-        Shape::Low2 => find_two(items, n, encode::low2(p.encode(value))),
-        Shape::Low4 | Shape::High4 => find_four(items, n, encode::low4(p.encode(value))),
-        Shape::Low8 | Shape::High8 => find_eight(items, n, encode::low8(p.encode(value))),
+        Shape::Low2 => find_number::<2>(items, n, encode::low::<2>(p.encode(value))),
+        Shape::Low4 | Shape::High4 => find_number::<4>(items, n, encode::low::<4>(p.encode(value))),
+        Shape::Low8 | Shape::High8 => find_number::<8>(items, n, encode::low::<8>(p.encode(value))),
     }
 }
 
@@ -171,62 +149,62 @@ fn held_len(w: u8, len: usize) -> usize
     len
 }
 
-// The first of `n` char items that is `item`, which becomes the next if it is new; or a length above the width up to there.
-fn find_char(w: u8, items: &[u8], lens: &[u8], n: usize, item: &[u8]) -> Looked
+// The first of `n` char items that is `item`, which becomes the next if it is new; none if a length up to there is above the width.
+fn find_char(w: u8, items: &[u8], lens: &[u8], n: usize, item: &[u8]) -> Option<usize>
     requires { (n ≤ MOST_ITEMS) × (n ≤ length lens.now) × (n * w ≤ length items.now) }
     ensures { result ≡ look_up (Char w) n 0 (held items.now [] lens.now) (bytes item.now) }
 {
     let len = held_len(w, item.len());
-    let mut i = 0;
-    while i < n {
+    for i in 0..n {
         let l = lens[i];
         if l as usize == len {
             if same_as(items, i * (w as usize), item) {
-                return Looked::Entry(i);
+                return Some(i);
             }
         } else if w < l {
-            return Looked::Bad;
+            return None;
         }
-        i += 1;
     }
-    Looked::Entry(n)
+    Some(n)
 }
 
-// The same of blob items, of `len` bytes in all; or a wrong end up to there.
-fn find_blob(items: &[u8], len: usize, ends: &[u32], n: usize, item: &[u8]) -> Looked
+// The same of blob items, of `len` bytes in all; none if an end up to there is wrong.
+fn find_blob(items: &[u8], len: usize, ends: &[u32], n: usize, item: &[u8]) -> Option<usize>
     requires { (n ≤ length ends.now) × (len ≤ length items.now) }
     ensures { result ≡ look_up blob n len (held items.now ends.now []) (bytes item.now) }
 {
     if n == 0 {
-        return Looked::Entry(n);
+        return Some(n);
     }
     let last = n - 1;
+    // No `for` is plainer: the place and the end before it go on together, and both are used behind the loop.
     let mut i = 0;
     let mut from = 0;
     while i < last {
         let end = fields::end_in(ends, i);
         if end < from {
-            return Looked::Bad;
+            return None;
         }
         if len < end {
-            return Looked::Bad;
+            return None;
         }
         if same_bytes(items, from, end - from, item) {
-            return Looked::Entry(i);
+            return Some(i);
         }
         from = end;
         i += 1;
     }
     if fields::blob_wrong(n, len, ends, i, from) {
-        return Looked::Bad;
+        return None;
     }
     if same_blob(items, ends, i, from, item) {
-        return Looked::Entry(i);
+        return Some(i);
     }
-    Looked::Entry(n)
+    Some(n)
 }
 
-// Which of `n` entries, of `len` bytes in all, a row is that is not null.
+// Which of `n` entries, of `len` bytes in all, a row is that is not null: the place of the first that equals it, which for a new
+// row is the next; or none, if an entry up to there has a wrong field.
 pub fn look_up(
     kind: Kind,
     n: usize,
@@ -236,12 +214,12 @@ pub fn look_up(
     lens: &[u8],
     value: i64,
     item: &[u8],
-) -> Looked
+) -> Option<usize>
     requires { (n ≤ MOST_ITEMS) × FieldsThere kind n (held items.now ends.now lens.now) × BytesThere kind n len (held items.now ends.now lens.now) }
     ensures { result ≡ look_up kind n len (held items.now ends.now lens.now) (value_of kind value item.now) }
 {
     match kind {
-        Kind::Fixed(p) => Looked::Entry(find_fixed(p, items, n, value)),
+        Kind::Fixed(p) => Some(find_fixed(p, items, n, value)),
         Kind::Char(w) => find_char(w, items, lens, n, item),
         Kind::Blob(_) => find_blob(items, len, ends, n, item),
     }

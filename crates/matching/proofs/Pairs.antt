@@ -2,13 +2,14 @@
 use Prim.Native.Nat.{ℕ, zero, suc, ◌+◌, ◌-◌, ◌*◌, ◌≤◌, ◌<◌}
 use native.Mathlib.Omega.{arith}
 use mathlib.Core.Path.{◌≡◌, refl, sym, ap, subst, ◌∙◌}
-use mathlib.Core.Bool.{Bool, true, false}
-use mathlib.Core.List.{List}
+use mathlib.Core.Bool.{Bool, true, false, ◌&&◌}
+use lib.Pointwise.{pointwise}
+use mathlib.Core.List.{List, [], ◌∷◌}
 use borrow.Author.Tests.{eqb-true, eqb-false, eq-eqb, ne_eqb}
 use lib.Dec.{eqb}
 use lib.IntN.{ℤ}
-use lib.ListN.{length, take, drop, get_or, length-drop}
-use lib.Seq.{length-take-le, get_or-take, get_or-drop}
+use lib.ListN.{length, take, drop, length-drop}
+use lib.Seq.{length-take-le}
 use mir.Syntax.{w64}
 use mir.Val.{SFits, of_z}
 use Rattle.limits.specs.Limits.{MOST_ITEMS}
@@ -112,5 +113,26 @@ module _ (a : List ℕ) (from len : ℕ) where
   pub part_length : from + len ≤ length a → length (take len (drop from a)) ≡ len
   part_length h = length-take-le len (drop from a) (simp length-drop (omega arith))
 
-  pub part-byte : (i : ℕ) → i < len → get_or (take len (drop from a)) i 0 ≡ get_or a (from + i) 0
-  part-byte i h = rw (get_or-take, get_or-drop)
+pub lengths-differ : (xs ys : List ℕ) → (length xs ≡ length ys → ⊥) → false ≡ same_bytes xs ys
+unfolding same_bytes
+lengths-differ [] [] h = absurd (h refl)
+lengths-differ [] (y ∷ ys) h = refl
+lengths-differ (x ∷ xs) [] h = refl
+lengths-differ (x ∷ xs) (y ∷ ys) h =
+    let r = lengths-differ xs ys (λ e. h (omega (arith, e))) in
+    by (eqb x y) refl r
+  where
+    by : (b : Bool) → eqb x y ≡ b → false ≡ same_bytes xs ys → false ≡ (eqb x y && same_bytes xs ys)
+    by true e r = rw e r
+    by false e r = rw e refl
+
+-- as the library compares slices
+pointwise-same : (xs ys : List ℕ) → pointwise eqb xs ys ≡ same_bytes xs ys
+unfolding same_bytes
+pointwise-same [] [] = refl
+pointwise-same [] (y ∷ ys) = refl
+pointwise-same (x ∷ xs) [] = refl
+pointwise-same (x ∷ xs) (y ∷ ys) = ap (λ (b : Bool). eqb x y && b) (pointwise-same xs ys)
+
+pub bytes_same : {r : Bool} (xs ys : List ℕ) → r ≡ pointwise eqb xs ys → r ≡ same_bytes xs ys
+bytes_same xs ys e = e ∙ pointwise-same xs ys

@@ -1,23 +1,24 @@
 -- Items of a fixed kind as numbers: two have the same number exactly where they have the same value, whatever the order of their bytes. `lookup`
 -- proves that the first item of a value's number is the first of that value; here that is used of one item alone. Assumes nothing.
-use Prim.Native.Nat.{ℕ, ◌+◌, ◌*◌, ◌≤◌, ◌<◌}
+use Prim.Native.Nat.{ℕ, zero, suc, ◌+◌, ◌-◌, ◌*◌, ◌≤◌, ◌<◌}
 use native.Mathlib.Nat.{zero-mul, one-mul}
 use native.Mathlib.Omega.{arith}
 use mathlib.Core.Path.{◌≡◌, refl, sym, ap, ◌∙◌}
 use mathlib.Core.Bool.{Bool, true, false, cond, not, beq}
-use mathlib.Core.List.{List}
+use mathlib.Core.List.{List, [], ◌∷◌, ◌++◌}
 use borrow.Author.Tests.{eqb-true}
 use lib.Dec.{eqb}
 use lib.IntN.{ℤ}
-use lib.ListN.{length, take, drop, get_or, length-drop}
-use lib.Seq.{get_or-drop}
+use lib.ListN.{length, take, drop, get_or, replicate, length-drop, length-append, length-replicate}
+use lib.Seq.{get_or-drop, take_all, length-take-le}
+use Rattle.limits.specs.Limits.{is_width}
 use Rattle.encode.specs.Bytes.{number, in_eight}
 use Rattle.encode.specs.Kinds.{width_of, true_or_false, encoded, decoded, takes}
 use Rattle.encode.specs.declared.Primitive.{Primitive}
 use Rattle.encode.specs.declared.Primitive.TheVariants.{Bool as Boolean}
 use Rattle.plain.specs.Rows.{int, int_in, same_int, same}
 use Rattle.plain.specs.Plain.{places, fixed_at}
-use Rattle.plain.proofs.Items.{item_room, take-item}
+use Rattle.plain.proofs.Items.{item_room}
 use Rattle.plain.proofs.Same.{same-equal}
 use Rattle.lookup.specs.First.{first_at, first_value, first_number}
 use Rattle.lookup.proofs.Alike.{int_same}
@@ -92,13 +93,32 @@ module _ (p : Primitive) (n : ℕ) where
     unfolding word_at equal_at same fixed_at
     word_same wide k h = word p wide (drop (k * width_of p) a) (item a fa ra k h) (drop (k * width_of p) b) (item b fb rb k h)
 
--- ---- as the code reads it: the item at k times its width, and its number
-module _ (w : ℕ) (a b : List ℕ) (k : ℕ) (ra : k * w + w ≤ length a) (rb : k * w + w ≤ length b) where
+-- ---- as the code reads it: the item at k times its width, and the number of its bytes and the zeros behind them
+most : (w : ℕ) → is_width w ≡ true → w ≤ 8
+most w h = grind (arith, h)
+
+zeros : (m : ℕ) → number (replicate m 0) ≡ 0
+zeros zero = refl
+zeros (suc m) = omega (arith, zeros m)
+
+number-padded : (t : List ℕ) (m : ℕ) → number (t ++ replicate m 0) ≡ number t
+number-padded [] m = zeros m
+number-padded (b ∷ bs) m = omega (arith, number-padded bs m)
+
+module _ (w : ℕ) (few : w ≤ 8) (at : ℕ) (a : List ℕ) (r : at + w ≤ length a) where
+  number-in_eight : number (take 8 (in_eight (take w (drop at a)))) ≡ number (take w (drop at a))
+  number-in_eight =
+      let t : List ℕ = take w (drop at a) in
+      let l : length t ≡ w = length-take-le w (drop at a) (simp length-drop (omega arith)) in
+      let whole : length (in_eight t) ≤ 8 = omega (arith, l, length-append t (replicate (8 - length t) 0), length-replicate {A = ℕ} (8 - length t) 0) in
+      ap number (take_all 8 (in_eight t) whole) ∙ number-padded t (8 - length t)
+
+module _ (w : ℕ) (a b : List ℕ) (k : ℕ) (h : is_width w ≡ true) (ra : k * w + w ≤ length a) (rb : k * w + w ≤ length b) where
   pub words-read :
-      {x y : List ℕ} {m n : ℕ} → x ≡ in_eight (take w (drop (k * w) a)) → m ≡ number (take w x) → y ≡ in_eight (take w (drop (k * w) b)) → n ≡ number (take w y)
+      {x y : List ℕ} {m n : ℕ} → x ≡ in_eight (take w (drop (k * w) a)) → m ≡ number (take 8 x) → y ≡ in_eight (take w (drop (k * w) b)) → n ≡ number (take 8 y)
       → eqb m n ≡ word_at w a b k
   unfolding word_at
-  words-read x m y n = rw (m, x, n, y, take-item w (k * w) a ra, take-item w (k * w) b rb)
+  words-read x m y n = let few = most w h in rw (m, x, n, y, number-in_eight w few (k * w) a ra, number-in_eight w few (k * w) b rb)
 
 -- ---- bool: any nonzero byte is true
 truths : (x y : Bool) → beq x y ≡ same_int (true_or_false x) (true_or_false y)

@@ -1,5 +1,5 @@
 -- For the code, which compares two stored items. Assumes nothing.
-use Rattle.std.specs.Prelude.{ℕ, ◌+◌, ◌-◌, ◌*◌, ◌≤◌, ◌<◌, ◌≡◌, Bool, true, List, eqb, length, take, drop}
+use Rattle.std.specs.Prelude.{ℕ, ◌-◌, ◌*◌, ◌≤◌, ◌<◌, ◌≡◌, Bool, true, List, eqb, length, take, drop}
 use Rattle.limits.specs.Limits.{MOST_ITEMS}
 use Rattle.encode.specs.Bytes.{number}
 use Rattle.encode.specs.declared.Kind.{Kind}

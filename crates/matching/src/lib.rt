@@ -1,8 +1,8 @@
 // One stored item against another.
 #![tactic(auto)]
 
-ghost use Rattle.std.specs.Prelude.{◌≡◌, ◌+◌, ◌*◌, ◌<◌, ◌≤◌, length, take, drop};
-ghost use Rattle.limits.specs.Limits.{MOST_ITEMS};
+ghost use Rattle.std.specs.Prelude.{◌≡◌, true, ◌+◌, ◌*◌, ◌<◌, ◌≤◌, length, take, drop};
+ghost use Rattle.limits.specs.Limits.{MOST_ITEMS, is_width};
 ghost use Rattle.encode.specs.Kinds.{blob};
 ghost use Rattle.encode.specs.declared.Primitive.TheVariants.{Bool as Boolean};
 ghost use Rattle.plain.specs.Rows.{same, same_bytes};
@@ -83,20 +83,13 @@ pub fn same_part(a: &[u8], from: usize, len: usize, b: &[u8], at: usize, n: usiz
     if len != n {
         return false;
     }
-    let mut i = 0;
-    while i < n {
-        if a[from + i] != b[at + i] {
-            return false;
-        }
-        i += 1;
-    }
-    true
+    a[from..from + n] == b[at..at + n]
 }
 
 // ---- the same place of two plain columns
 
-// Whether item `k` of each is the same: a bool, of which any nonzero byte is true; two bytes; four; eight. The bytes are compared as one
-// number, lowest first, whatever their order.
+// Whether item `k` of each is the same: a bool, of which any nonzero byte is true; or of some bytes, which are compared as one number,
+// lowest first, whatever their order.
 pub fn same_bool(a: &[u8], b: &[u8], k: usize) -> bool
     requires { (k < length a.now) × (k < length b.now) }
     ensures { result ≡ equal_at Boolean a.now b.now k }
@@ -104,26 +97,11 @@ pub fn same_bool(a: &[u8], b: &[u8], k: usize) -> bool
     (a[k] != 0) == (b[k] != 0)
 }
 
-pub fn same_two(a: &[u8], b: &[u8], k: usize) -> bool
-    requires { (k < MOST_ITEMS) × (k * 2 + 2 ≤ length a.now) × (k * 2 + 2 ≤ length b.now) }
-    ensures { result ≡ word_at 2 a.now b.now k }
+// Of `W` bytes: two, four or eight.
+pub fn same_word<const W: usize>(a: &[u8], b: &[u8], k: usize) -> bool
+    requires { (is_width W ≡ true) × (k < MOST_ITEMS) × (k * W + W ≤ length a.now) × (k * W + W ≤ length b.now) }
+    ensures { result ≡ word_at W a.now b.now k }
 {
-    let at = k * 2;
-    encode::low2(plain::item(a, at, 2)) == encode::low2(plain::item(b, at, 2))
-}
-
-pub fn same_four(a: &[u8], b: &[u8], k: usize) -> bool
-    requires { (k < MOST_ITEMS) × (k * 4 + 4 ≤ length a.now) × (k * 4 + 4 ≤ length b.now) }
-    ensures { result ≡ word_at 4 a.now b.now k }
-{
-    let at = k * 4;
-    encode::low4(plain::item(a, at, 4)) == encode::low4(plain::item(b, at, 4))
-}
-
-pub fn same_eight(a: &[u8], b: &[u8], k: usize) -> bool
-    requires { (k < MOST_ITEMS) × (k * 8 + 8 ≤ length a.now) × (k * 8 + 8 ≤ length b.now) }
-    ensures { result ≡ word_at 8 a.now b.now k }
-{
-    let at = k * 8;
-    encode::low8(plain::item(a, at, 8)) == encode::low8(plain::item(b, at, 8))
+    let at = k * W;
+    encode::low::<8>(plain::item(a, at, W)) == encode::low::<8>(plain::item(b, at, W))
 }

@@ -36,43 +36,30 @@ fn path_of(name: &[u8]) -> Result<&str, Error> {
     if name.contains(&0) {
         return Err(Error::from_raw_os_error(reason::INVALID));
     }
-    match str::from_utf8(name) {
-        Ok(path) => Ok(path),
-        Err(_) => Err(Error::from_raw_os_error(reason::NO_TEXT)),
-    }
+    str::from_utf8(name).map_err(|_| Error::from_raw_os_error(reason::NO_TEXT))
 }
 
 // ---- a file read
 
-fn open_read(rt: &HostRuntime, name: &[u8]) -> Result<File, Error> {
-    File::open(rt, path_of(name)?)
-}
-
-// How many bytes of an open file came into the room; none where it can't be read.
-fn read_open(mut open: File, name: &[u8], file: &mut [u8]) -> usize
-    ensures { IsPrefixLen result file.new }
+// How many bytes of a file came into the room, or why it can't be read.
+fn read_file(rt: &HostRuntime, name: &[u8], file: &mut [u8]) -> Result<usize, Error>
+    ensures { IfOk result (λ n. IsPrefixLen n file.new) }
 {
+    let mut open = File::open(rt, path_of(name)?)?;
     let n = io::read_full(open.as_raw_fd(), file);
-    match whole_file::is_read(&mut open, n) {
-        Ok(true) => n,
-        // A read failed, and the next one didn't: something had only held it up, as a signal does.
-        Ok(false) => {
-            fail(name, Error::from_raw_os_error(reason::INTERRUPTED));
-            0
-        }
-        Err(error) => {
-            fail(name, error);
-            0
-        }
+    // Where a read failed and the next one didn't, something had only held it up, as a signal does.
+    if !whole_file::is_read(&mut open, n)? {
+        return Err(Error::from_raw_os_error(reason::INTERRUPTED));
     }
+    Ok(n)
 }
 
-// The same of a file by its name.
+// How many bytes of a file came into the room; none where it can't be read.
 pub fn read_named(rt: &HostRuntime, name: &[u8], file: &mut [u8]) -> usize
     ensures { IsPrefixLen result file.new }
 {
-    match open_read(rt, name) {
-        Ok(open) => read_open(open, name, file),
+    match read_file(rt, name, file) {
+        Ok(n) => n,
         Err(error) => {
             fail(name, error);
             0
@@ -96,15 +83,13 @@ pub fn read_argument(rt: &HostRuntime, i: usize, file: &mut [u8]) -> usize
 
 // ---- a file made
 
-fn open_overwrite(rt: &HostRuntime, name: &[u8]) -> Result<File, Error> {
-    File::create(rt, path_of(name)?)
-}
-
-// Writes two parts one after the other, and has the system keep both.
-fn write_both(open: &mut File, head: &[u8], rest: &[u8]) -> Result<(), Error> {
+// Makes a file of two parts, one after the other, and has the system keep both. A file that is there is emptied first, and where a write
+// fails what was written before it stays.
+fn make_file(rt: &HostRuntime, name: &[u8], head: &[u8], rest: &[u8]) -> Result<(), Error> {
+    let mut open = File::create(rt, path_of(name)?)?;
     open.write_all(head)?;
     open.write_all(rest)?;
-    keep(open)
+    keep(&open)
 }
 
 // Has the system keep what was written to a file, since some systems say only then that they couldn't, and a file that std closes says
@@ -116,21 +101,10 @@ fn keep(open: &File) -> Result<(), Error> {
     }
 }
 
-// The same of an open file, which is closed. What comes back is whether all of both is written.
-fn write_open(mut open: File, name: &[u8], head: &[u8], rest: &[u8]) -> bool {
-    match write_both(&mut open, head, rest) {
-        Ok(()) => true,
-        Err(error) => {
-            fail(name, error);
-            false
-        }
-    }
-}
-
-// The same of a file by its name. One that is there is emptied first, and where a write fails what was written before it stays.
+// The same of a file by its name. What comes back is whether all of both is written.
 fn make_named(rt: &HostRuntime, name: &[u8], head: &[u8], rest: &[u8]) -> bool {
-    match open_overwrite(rt, name) {
-        Ok(open) => write_open(open, name, head, rest),
+    match make_file(rt, name, head, rest) {
+        Ok(()) => true,
         Err(error) => {
             fail(name, error);
             false

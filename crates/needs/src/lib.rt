@@ -37,32 +37,28 @@ pub struct Room {
 }
 
 // Whether rows are coded by runs; whether a flag stands beside each stored item; whether a run has a key.
+#[tactic(auto, unfolding(crate::specs::Needs::coded))]
 pub fn is_coded(e: Encoding) -> bool
     ensures { result ≡ coded e }
 {
-    match e {
-        Encoding::Plain | Encoding::Nullable => false,
-        Encoding::RunLength | Encoding::RunLengthNullable | Encoding::Dictionary => true,
-    }
+    matches!(
+        e,
+        Encoding::RunLength | Encoding::RunLengthNullable | Encoding::Dictionary
+    )
 }
 
+#[tactic(auto, unfolding(crate::specs::Needs::flagged))]
 pub fn is_flagged(e: Encoding) -> bool
     ensures { result ≡ flagged e }
 {
-    match e {
-        Encoding::Nullable | Encoding::RunLengthNullable => true,
-        Encoding::Plain | Encoding::RunLength | Encoding::Dictionary => false,
-    }
+    matches!(e, Encoding::Nullable | Encoding::RunLengthNullable)
 }
 
+#[tactic(auto, unfolding(crate::specs::Needs::keyed))]
 pub fn is_keyed(e: Encoding) -> bool
     ensures { result ≡ keyed e }
 {
-    match e {
-        Encoding::Dictionary => true,
-        Encoding::Plain | Encoding::Nullable | Encoding::RunLength | Encoding::RunLengthNullable =>
-            { false }
-    }
+    matches!(e, Encoding::Dictionary)
 }
 
 // The stored items: rows, runs or entries.

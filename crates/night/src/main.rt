@@ -17,13 +17,13 @@
 ghost use Rattle.std.specs.Prelude.{◌<◌, length};
 ghost use Rattle.limits.specs.Limits.{MOST_INPUT};
 
-// How far the list is: the files so far, those of them that differ, whether there may be more, and whether the list couldn't be read on.
-#[derive(Clone, Copy)]
+use std::io;
+
+// How far the list is: the files so far, and those of them that differ.
+#[derive(Clone, Copy, Default)]
 struct Tally {
     files: usize,
     differs: usize,
-    more: bool,
-    failed: bool,
 }
 
 fn compare_named(
@@ -61,72 +61,46 @@ fn compare_line(
 
 // One file more. How far it is is said after each hundred.
 fn counted(tally: Tally, differs: bool) -> Tally {
-    let mut next = tally;
-    next.files = std::num::wrapping_add_usize(tally.files, 1);
-    if differs {
-        next.differs = std::num::wrapping_add_usize(tally.differs, 1);
-    }
+    let next = Tally {
+        files: tally.files.wrapping_add(1),
+        differs: tally.differs.wrapping_add(usize::from(differs)),
+    };
     if next.files % 100 == 0 {
         night_by::say_tally(2, next.files, next.differs);
     }
     next
 }
 
-// The next line of the list.
-fn compare_next(
+// All lines: no list has more of them than the counter. An error is why the list can't be read on.
+fn compare_all(
     rt: &HostRuntime,
-    tally: Tally,
     file: &mut [u8],
     one: &mut [u8],
     other: &mut [u8],
-) -> Tally
+) -> io::Result<Tally>
     requires { (MOST_INPUT < length one.old) × (MOST_INPUT < length other.old) }
 {
-    let mut room = night_by::room();
-    let line = night_by::read_line(rt, &mut room);
-    let mut next = tally;
-    next.more = line.more;
-    if let Some(error) = line.failed {
-        named_file::fail(b"list", error);
-        next.failed = true;
-        return next;
-    }
-    if line.len == 0 {
-        return next;
-    }
-    let n = line.len;
-    let differs = compare_line(rt, &room[..n], file, one, other);
-    counted(next, differs)
-}
-
-// All lines: no list has more of them than the counter.
-fn compare_all(rt: &HostRuntime, file: &mut [u8], one: &mut [u8], other: &mut [u8]) -> Tally
-    requires { (MOST_INPUT < length one.old) × (MOST_INPUT < length other.old) }
-{
-    let mut tally = Tally {
-        files: 0,
-        differs: 0,
-        more: true,
-        failed: false,
-    };
-    let mut left: usize = 0xffff_ffff_ffff_ffff;
-    while 0 < left {
-        if !tally.more {
-            return tally;
+    let mut tally = Tally::default();
+    for _ in 0..usize::MAX {
+        let mut room = night_by::room();
+        let line = night_by::read_line(rt, &mut room)?;
+        if 0 < line.len {
+            let differs = compare_line(rt, &room[..line.len], file, one, other);
+            tally = counted(tally, differs);
         }
-        tally = compare_next(rt, tally, file, one, other);
-        left -= 1;
+        if !line.more {
+            break;
+        }
     }
-    tally
+    Ok(tally)
 }
 
 fn main(rt: HostRuntime) {
     let mut file = whole_file::room();
     let mut one = whole_file::room();
     let mut other = whole_file::room();
-    let tally = compare_all(&rt, &mut file, &mut one, &mut other);
-    if tally.failed {
-        return;
+    match compare_all(&rt, &mut file, &mut one, &mut other) {
+        Ok(tally) => night_by::say_tally(1, tally.files, tally.differs),
+        Err(error) => named_file::fail(b"list", error),
     }
-    night_by::say_tally(1, tally.files, tally.differs);
 }

@@ -4,7 +4,7 @@
 
 mod lines;
 
-ghost use Rattle.std.specs.Prelude.{◌≡◌, false, ◌||◌, ◌+◌, ◌≤◌, ◌<◌, length, take, drop};
+ghost use Rattle.std.specs.Prelude.{◌≡◌, false, ◌+◌, ◌≤◌, ◌<◌, length, take, drop};
 ghost use Rattle.limits.specs.Limits.{MOST_INPUT};
 ghost use Rattle.descriptor.specs.Descriptor.{descriptor_of};
 ghost use Rattle.sheet.specs.Sheet.{columns_in};
@@ -125,25 +125,13 @@ fn compare_column(name: &[u8], file: &[u8], j: usize, one: &mut [u8], other: &mu
     say_verdict(verdict)
 }
 
-fn either(a: bool, b: bool) -> bool
-    ensures { result ≡ (a || b) }
-{
-    if a {
-        return true;
-    }
-    b
-}
-
 fn compare_columns(name: &[u8], file: &[u8], n: usize, one: &mut [u8], other: &mut [u8]) -> bool
     requires { Directory file.now × (n ≤ columns_in file.now) × (MOST_INPUT < length one.old) × (MOST_INPUT < length other.old) }
     ensures { result ≡ false }
 {
     let mut differs = false;
-    let mut j = 0;
-    while j < n {
-        let here = compare_column(name, file, j, one, other);
-        differs = either(differs, here);
-        j += 1;
+    for j in 0..n {
+        differs |= compare_column(name, file, j, one, other);
     }
     differs
 }

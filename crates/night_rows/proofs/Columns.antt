@@ -1,13 +1,13 @@
 -- What a block's number tells of its rows and of its verdict; which rows are due. Assumes nothing.
+use Rattle.std.specs.Prelude.{Some}
 use Prim.Native.Nat.{ℕ, ◌+◌, ◌-◌, ◌≤◌, ◌<◌}
 use native.Mathlib.Omega.{arith}
-use mathlib.Core.List.{List, [], ◌∷◌}
-use mathlib.Core.Path.{◌≡◌, ap, subst, ◌∙◌}
+use mathlib.Core.List.{List}
+use mathlib.Core.Path.{◌≡◌, ◌∙◌}
 use lib.Dec.{ltb}
 use lib.ListN.{length}
 use borrow.Author.Tests.{le-leb, lt-leb, ne_eqb, ltb-false}
-use types.Run.{OneOf, miss}
-use denote.Enum.Declared.{tag_of}
+use Rattle.std.specs.Prelude.{Result, Ok}
 use Rattle.limits.specs.Limits.{MOST_ROWS, MOST_BYTES}
 use Rattle.limits.specs.Refusals.{LIMIT}
 use Rattle.encode.specs.declared.Kind.{Kind}
@@ -15,7 +15,6 @@ use Rattle.plain.specs.Plain.{places}
 use Rattle.plain.specs.Rules.{◌if◌}
 use Rattle.plain.proofs.Rules as rules
 use Rattle.format.specs.declared.Encoding.{Encoding}
-use Rattle.format.specs.declared.Column.TheVariants.{Of}
 use Rattle.format.specs.Opening.{most_rows, column_number}
 use Rattle.fill.specs.Areas.{Areas}
 use Rattle.block.proofs.RecordTests.{most-rows}
@@ -26,11 +25,11 @@ use Rattle.slow_laws.proofs.Openings.{kept}
 use Rattle.slow_laws.proofs.Refusing.{refused-as-opening}
 use Rattle.night_rows.specs.declared.Verdict.{Verdict}
 use Rattle.night_rows.specs.declared.Verdict.TheVariants.{Same, Refused}
-use Rattle.night_rows.specs.contracts.Verdict.{the_type}
 use Rattle.night_rows.specs.Night.{powers_among, rows_compared, verdict_of}
+use Rattle.format.specs.Blocks.{column}
 
 -- ---- a sound block has no more rows than any block
-few-in : (k : Kind) (e : Encoding) (n : ℕ) (b : List ℕ) → column_number (Of k e) n b ≡ 0 → n ≤ MOST_ROWS
+few-in : (k : Kind) (e : Encoding) (n : ℕ) (b : List ℕ) → column_number (Some (column k e)) n b ≡ 0 → n ≤ MOST_ROWS
 unfolding column_number
 few-in k e n b z =
     let short = rules.kept (LIMIT if ltb MOST_BYTES (length b)) _ z in
@@ -59,18 +58,14 @@ pub none-due : (n : ℕ) → n ≡ 0 → Same 0 ≡ Same (rows_compared n)
 unfolding rows_compared
 none-due n h = rw h
 
-pub all-due : (n : ℕ) → n ≤ 2000 → {v : Verdict} → v ≡ Same (n - 0) → v ≡ Same (rows_compared n)
+pub all-due : (n : ℕ) → n ≤ 2000 → n - 0 ≡ rows_compared n
 unfolding rows_compared
-all-due n h e = rw (le-leb n 2000 h) (e ∙ ap Same (omega arith))
+all-due n h = rw (le-leb n 2000 h) (omega arith)
 
-pub some-due :
-    (n a b c : ℕ) → 2000 < n → a ≡ 1000 - 0 → b ≡ powers_among (n - 1000) (places 48 0) → c ≡ n - (n - 1000) → Same (a + b + c) ≡ Same (rows_compared n)
+pub some-due : (n a b c : ℕ) → 2000 < n → a ≡ 1000 - 0 → b ≡ powers_among (n - 1000) (places 48 0) → c ≡ n - (n - 1000) → a + b + c ≡ rows_compared n
 unfolding rows_compared
-some-due n a b c h p q r = rw (lt-leb n 2000 h) (ap Same (omega arith))
+some-due n a b c h p q r = rw (lt-leb n 2000 h) (omega arith)
 
--- ---- what a verdict that is known holds
-pub never-else : {A : Type 0} (v : Verdict) {n : ℕ} → v ≡ Same n → OneOf (1 ∷ 2 ∷ []) (tag_of the_type v) → A
-never-else v e q = absurd (miss (1 ∷ 2 ∷ []) 0 tt (subst (λ (x : Verdict). OneOf (1 ∷ 2 ∷ []) (tag_of the_type x)) e q))
-
-pub same_of : {v : Verdict} {n m : ℕ} → v ≡ Same n → v ≡ Same m → m ≡ n
+-- ---- what an answer that is known holds
+pub same_of : {A : Type 0} {r : Result ℕ A} {n m : ℕ} → r ≡ Ok n → r ≡ Ok m → m ≡ n
 same_of p q = cc

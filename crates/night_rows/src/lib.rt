@@ -1,13 +1,12 @@
 // The rows of a column asked of both engines: of the reader that opening gave, used anew for each row, and of the second engine.
 #![tactic(auto)]
 
-ghost use Rattle.std.specs.Prelude.{◌≡◌, true, [], ◌∷◌, ◌-◌, ◌≤◌, ◌<◌, pos, length, replicate};
+ghost use Rattle.std.specs.Prelude.{Ok, ◌≡◌, true, [], ◌∷◌, ◌-◌, ◌≤◌, ◌<◌, pos, length, replicate};
 ghost use Rattle.plain.specs.Plain.{places};
 ghost use Rattle.fill.specs.Areas.{areas};
 ghost use Rattle.descriptor.specs.Descriptor.{described_number};
 ghost use Rattle.slow_answer.specs.Slow.{row_shown, refused_row};
 ghost use Rattle.slow_laws.specs.Agreeing.{fresh};
-ghost use Rattle.night_rows.specs.declared.Verdict.TheVariants.{Same};
 ghost use Rattle.night_rows.specs.Night.{FILL as filling, Tells, lent, Sound, powers_among, rows_compared, verdict_of};
 
 use block::Reader;
@@ -16,12 +15,17 @@ use limits::refusal;
 use slow_answer::RowGiven;
 
 // What comes of a comparison: so many rows are the same; both refuse the block, by this number; or they differ, first at this row.
+// The number is that of the opening's answer, a record that C has too.
 #[derive(Clone, Copy)]
 pub enum Verdict {
     Same(usize),
     Refused(u8),
     Differs(usize),
 }
+
+// The first row that the engines don't give alike.
+#[derive(Clone, Copy)]
+struct FirstDiffering(usize);
 
 // The rows at either end that are compared of a column of more than twice as many.
 const ENDS: usize = 1000;
@@ -30,61 +34,6 @@ const ENDS: usize = 1000;
 const FILL: u8 = 0xaa;
 
 // ---- lent memory compared
-
-fn same_values(a: &[i64], b: &[i64]) -> bool
-    ensures { Tells result (a.now ≡ b.now) }
-{
-    if a.len() != b.len() {
-        return false;
-    }
-    let mut i = 0;
-    while i < a.len() {
-        if a[i] != b[i] {
-            return false;
-        }
-        i += 1;
-    }
-    true
-}
-
-fn same_ends(a: &[u32], b: &[u32]) -> bool
-    ensures { Tells result (a.now ≡ b.now) }
-{
-    if a.len() != b.len() {
-        return false;
-    }
-    let mut i = 0;
-    while i < a.len() {
-        if a[i] != b[i] {
-            return false;
-        }
-        i += 1;
-    }
-    true
-}
-
-fn same_bytes(a: &[u8], b: &[u8]) -> bool
-    ensures { Tells result (a.now ≡ b.now) }
-{
-    if a.len() != b.len() {
-        return false;
-    }
-    let mut i = 0;
-    while i < a.len() {
-        if a[i] != b[i] {
-            return false;
-        }
-        i += 1;
-    }
-    true
-}
-
-fn fill(room: &mut [u8])
-    ensures { room.new ≡ replicate (length room.old) filling }
-{
-    let n = room.len();
-    area::fill_bytes(room, 0, n, FILL);
-}
 
 fn values() -> [i64; 2]
     ensures { result ≡ pos filling ∷ pos filling ∷ [] }
@@ -116,16 +65,7 @@ fn lent_same(
 ) -> bool
     ensures { Tells result (areas v.now f.now e.now one.now ≡ areas w.now g.now h.now other.now) }
 {
-    if !same_values(v, w) {
-        return false;
-    }
-    if !same_bytes(f, g) {
-        return false;
-    }
-    if !same_ends(e, h) {
-        return false;
-    }
-    same_bytes(one, other)
+    v == w && f == g && e == h && one == other
 }
 
 // ---- a row
@@ -147,13 +87,7 @@ fn answers_same(
     ensures { Tells result ((number ≡ shown.number) × (bytes ≡ shown.bytes)
         × (areas v.now f.now e.now one.now ≡ areas w.now g.now h.now other.now)) }
 {
-    if number != shown.number {
-        return false;
-    }
-    if bytes != shown.bytes {
-        return false;
-    }
-    lent_same(v, w, f, g, e, h, one, other)
+    number == shown.number && bytes == shown.bytes && lent_same(v, w, f, g, e, h, one, other)
 }
 
 // Whether a reader that has given nothing yet and the second engine give row `r` alike: number, bytes and every lent slot.
@@ -209,8 +143,8 @@ fn row_same(
     let mut w = values();
     let mut g = flags();
     let mut h = ends();
-    fill(one);
-    fill(other);
+    one.fill(FILL);
+    other.fill(FILL);
     row_alike(
         reader, d, block, r, &mut v, &mut f, &mut e, one, &mut w, &mut g, &mut h, other,
     )
@@ -249,8 +183,8 @@ fn refused_same(number: u8, d: Descriptor, block: &[u8], one: &mut [u8], other: 
     let mut w = values();
     let mut g = flags();
     let mut h = ends();
-    fill(one);
-    fill(other);
+    one.fill(FILL);
+    other.fill(FILL);
     refused_alike(
         number, d, block, &v, &f, &e, one, &mut w, &mut g, &mut h, other,
     )
@@ -267,21 +201,19 @@ fn compare_from(
     to: usize,
     one: &mut [u8],
     other: &mut [u8],
-) -> Verdict
+) -> Result<usize, FirstDiffering>
     requires { Sound reader d block.now × (from ≤ to) × (to ≤ d.rows) × (length one.old ≡ length other.old) }
-    ensures { result ≡ Same (to - from) }
+    ensures { result ≡ Ok (to - from) }
 {
-    let mut r = from;
-    while r < to {
+    for r in from..to {
         if !row_same(reader, d, block, r, one, other) {
-            return Verdict::Differs(r);
+            return Err(FirstDiffering(r));
         }
-        r += 1;
     }
-    Verdict::Same(to - from)
+    Ok(to - from)
 }
 
-// The rows whose numbers are powers of two, from 1,024 on and below `to`.
+// The rows whose numbers are powers of two, from 1,024 on and below `to`: the loop doubles.
 fn compare_powers(
     reader: Reader,
     d: Descriptor,
@@ -289,20 +221,20 @@ fn compare_powers(
     to: usize,
     one: &mut [u8],
     other: &mut [u8],
-) -> Verdict
+) -> Result<usize, FirstDiffering>
     requires { Sound reader d block.now × (to ≤ d.rows) × (length one.old ≡ length other.old) }
-    ensures { result ≡ Same (powers_among to (places 48 0)) }
+    ensures { result ≡ Ok (powers_among to (places 48 0)) }
 {
     let mut r = 1024;
     let mut n = 0;
     while r < to {
         if !row_same(reader, d, block, r, one, other) {
-            return Verdict::Differs(r);
+            return Err(FirstDiffering(r));
         }
         n += 1;
         r *= 2;
     }
-    Verdict::Same(n)
+    Ok(n)
 }
 
 // Of `n` rows, more than 2,000: the first 1,000, the powers of two between, and the last 1,000.
@@ -313,23 +245,14 @@ fn compare_some(
     n: usize,
     one: &mut [u8],
     other: &mut [u8],
-) -> Verdict
+) -> Result<usize, FirstDiffering>
     requires { Sound reader d block.now × (n ≡ d.rows) × (2000 < n) × (length one.old ≡ length other.old) }
-    ensures { result ≡ Same (rows_compared n) }
+    ensures { result ≡ Ok (rows_compared n) }
 {
-    let low = compare_from(reader, d, block, 0, ENDS, one, other);
-    let Verdict::Same(a) = low else {
-        return low;
-    };
-    let between = compare_powers(reader, d, block, n - ENDS, one, other);
-    let Verdict::Same(b) = between else {
-        return between;
-    };
-    let high = compare_from(reader, d, block, n - ENDS, n, one, other);
-    let Verdict::Same(c) = high else {
-        return high;
-    };
-    Verdict::Same(a + b + c)
+    let low = compare_from(reader, d, block, 0, ENDS, one, other)?;
+    let between = compare_powers(reader, d, block, n - ENDS, one, other)?;
+    let high = compare_from(reader, d, block, n - ENDS, n, one, other)?;
+    Ok(low + between + high)
 }
 
 fn compare_rows(
@@ -338,9 +261,9 @@ fn compare_rows(
     block: &[u8],
     one: &mut [u8],
     other: &mut [u8],
-) -> Verdict
+) -> Result<usize, FirstDiffering>
     requires { Sound reader d block.now × (length one.old ≡ length other.old) }
-    ensures { result ≡ Same (rows_compared d.rows) }
+    ensures { result ≡ Ok (rows_compared d.rows) }
 {
     if d.rows <= 2 * ENDS {
         return compare_from(reader, d, block, 0, d.rows, one, other);
@@ -372,7 +295,10 @@ fn compare_opened(
         }
         return Verdict::Differs(0);
     }
-    compare_rows(reader, d, block, one, other)
+    match compare_rows(reader, d, block, one, other) {
+        Ok(rows) => Verdict::Same(rows),
+        Err(FirstDiffering(row)) => Verdict::Differs(row),
+    }
 }
 
 // The same with a byte more lent than any row has.

@@ -1,5 +1,5 @@
 -- Nullable blocks: the plain block, a bitmap, the bitmap's byte length. Assumes nothing.
-use Rattle.std.specs.Prelude.{ℕ, zero, suc, ◌+◌, ◌-◌, ◌*◌, ◌/◌, ◌%◌, ◌^◌, cond, not, List, [], ◌∷◌, ◌++◌, map, ltb, eqb, length, take, drop, get_or}
+use Rattle.std.specs.Prelude.{ℕ, ◌+◌, ◌-◌, ◌*◌, ◌/◌, ◌%◌, ◌^◌, cond, not, List, [], ◌∷◌, ◌++◌, map, ltb, eqb, length, take, drop, get_or}
 use Rattle.encode.specs.Bytes.{little, number}
 use Rattle.encode.specs.declared.Kind.{Kind}
 use Rattle.limits.specs.Refusals.{CUT, LENGTH}

@@ -4,12 +4,13 @@
 ghost use Rattle.std.specs.Prelude.{◌≡◌, map, ◌+◌, ◌-◌, ◌*◌, ◌/◌, ◌<◌, ◌≤◌, ◌^◌, pos, length};
 ghost use Rattle.std.proofs.lemmas.List.Edits.{sets};
 ghost use Rattle.limits.specs.Limits.{MOST_ITEMS};
+ghost use Rattle.limits.specs.Refusals.{number_in};
 ghost use Rattle.plain.specs.Plain.{places};
 ghost use Rattle.nullable.specs.Nullable.{bitmap_length, bit_at, nullable_number};
 ghost use Rattle.nullable.specs.Blanks.{bit_in, blank_at};
 
 use encode::Kind;
-use limits::refusal;
+use limits::refusal::Refusal;
 
 // The bytes of a bitmap of `n` bits.
 pub fn bitmap_len(n: usize) -> usize
@@ -29,7 +30,7 @@ pub fn bit_at(bitmap: &[u8], i: usize) -> u8
     (bitmap[k] >> shift) % 2
 }
 
-// The eight flags of a byte of the bitmap, stored from `at` on.
+// The eight flags of a byte of the bitmap, stored from `at` on. The stores stand one by one, with no loop, for speed.
 fn put_eight(byte: u8, at: usize, out: &mut [u8])
     requires { at + 8 ≤ length out.old }
     ensures { out.new ≡ sets out.old at (map (bit_in byte) (places 8 0)) }
@@ -69,6 +70,7 @@ pub fn flags(bitmap: &[u8], from: usize, n: usize, out: &mut [u8])
     requires { (from + n ≤ MOST_ITEMS) × (from + n ≤ 8 * length bitmap.now) × (n ≤ length out.old) }
     ensures { out.new ≡ sets out.old 0 (map (bit_at bitmap.now) (places n from)) }
 {
+    // the steps are of one row or of eight
     let mut i = 0;
     while i < n {
         i += put_some(bitmap, from + i, n - i, i, out);
@@ -91,28 +93,26 @@ pub fn blank(flags: &[u8], n: usize, values: &mut [i64])
     requires { (n ≤ length flags.now) × (n ≤ length values.old) }
     ensures { values.new ≡ sets values.old 0 (map (blank_at flags.now values.old) (places n 0)) }
 {
-    let mut i = 0;
-    while i < n {
+    for i in 0..n {
         values[i] = shown(flags[i], values[i]);
-        i += 1;
     }
 }
 
-// The number that the nullable rules give for `n` rows.
-pub fn check(kind: Kind, n: usize, s: &[u8]) -> u8
+// What the nullable rules say of `n` rows.
+pub fn check(kind: Kind, n: usize, s: &[u8]) -> Result<(), Refusal>
     requires { n ≤ MOST_ITEMS }
-    ensures { result ≡ nullable_number kind n s.now }
+    ensures { number_in result ≡ nullable_number kind n s.now }
 {
     let len = s.len();
     if len < 4 {
-        return refusal::CUT;
+        return Err(Refusal::Cut);
     }
     let bitmap = bitmap_len(n);
     if plain::u32_at(s, len - 4) != bitmap {
-        return refusal::LENGTH;
+        return Err(Refusal::Length);
     }
     if len < bitmap + 4 {
-        return refusal::CUT;
+        return Err(Refusal::Cut);
     }
     let end = len - (bitmap + 4);
     plain::check(kind, n, &s[..end])

@@ -9,7 +9,6 @@ use lib.ListN.{length, replicate}
 use Rattle.limits.specs.Limits.{MOST_ITEMS}
 use Rattle.encode.specs.declared.Kind.{Kind}
 use Rattle.encode.specs.declared.Kind.TheVariants.{Fixed, Char, Blob}
-use Rattle.plain.specs.Rows.{null}
 use Rattle.plain.specs.Plain.{places, plain_row}
 use Rattle.nullable.specs.Nullable.{bit_at, presence}
 use Rattle.nullable.proofs.Bits.{bit-small}

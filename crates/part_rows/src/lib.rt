@@ -14,7 +14,7 @@ use rle::Spot;
 use source::{Marks, Weighed};
 
 // Looks at the next `n` rows, by their counts, ends and keys.
-pub fn weigh_rows(parts: Parts, from: Spot, block: &[u8], n: usize) -> Weighed
+pub fn weigh_rows(parts: Parts, from: Spot, block: &[u8], n: usize) -> Option<Weighed>
     requires { Serves parts from block.now n }
     ensures { result ≡ weighed_by (good_in parts block.now) (size_in parts block.now) (steps_by parts from block.now n) }
 {
@@ -73,7 +73,7 @@ pub fn write_flags(parts: Parts, from: Spot, block: &[u8], n: usize, flags: &mut
     let source = parts.source;
     let by = source.marks;
     match by {
-        Marks::Bare => area::fill_bytes(flags, 0, n, 1),
+        Marks::Bare => area::fill(flags, 0, n, 1),
         Marks::Bits => write_bits(parts, from, block, n, flags),
         Marks::Keys => write_marks(parts, from, block, n, flags),
     }

@@ -1,4 +1,4 @@
--- Chars: the loop that looks for the first NUL of an item, and the bytes before it. Assumes nothing.
+-- Chars: the first NUL of an item, and the bytes before it; a loop that looks for it. Assumes nothing.
 use mathlib.Core.Path.{◌≡◌, refl, sym, ap, ◌∙◌}
 use mathlib.Core.Bool.{Bool, true, false, cond}
 use mathlib.Core.List.{List, [], ◌∷◌}
@@ -9,6 +9,9 @@ use borrow.Author.Tests.{eq-eqb, ne_eqb}
 use lib.Dec.{eqb}
 use lib.ListN.{length, take, drop, get_or, length-take}
 use lib.Seq.{drop-cons, take-take}
+use Rattle.std.proofs.lemmas.Iterator.{index_from_first}
+use Rattle.std.specs.List.{AllWithin, HoldsAt}
+use Rattle.std.specs.Prelude.{Option, MatchOption, unwrap_or}
 use Rattle.plain.specs.Plain.{before_nul, char_at}
 
 -- what stands before the first NUL is the start of the list
@@ -41,7 +44,31 @@ module _ (w : ℕ) (s : List ℕ) (i : ℕ) where
       let l : List ℕ = take w (drop (i * w) s) in
       sym (take-take (length (before_nul l)) w (drop (i * w) s) length-char) ∙ take-before l
 
--- the loop over an item's bytes: none of the n that were passed is a NUL
+-- what stands before the first NUL is as long as that one's place, or as the list where there is none
+abbrev pub IsNul : ℕ → Type 0
+IsNul b = b ≡ 0
+
+abbrev pub IsOther : ℕ → Type 0
+IsOther b = b ≡ 0 → ⊥
+
+none-before : (b : ℕ) (bs : List ℕ) → IsNul b → length (before_nul (b ∷ bs)) ≡ 0
+unfolding before_nul
+none-before b bs h = simp (eq-eqb b 0 h)
+
+one-more : (b : ℕ) (bs : List ℕ) → IsOther b → length (before_nul (b ∷ bs)) ≡ length (before_nul bs) + 1
+unfolding before_nul
+one-more b bs h = simp (ne_eqb b 0 h) (omega arith)
+
+nothing : length (before_nul []) ≡ 0
+unfolding before_nul
+nothing = refl
+
+pub length_first :
+    (bs : List ℕ) (r : Option ℕ) → MatchOption r (AllWithin IsOther bs 0 (length bs)) (λ i. (i < length bs) × HoldsAt IsNul bs i × AllWithin IsOther bs 0 i)
+    → length (before_nul bs) ≡ unwrap_or r (length bs)
+length_first bs r h = index_from_first (λ (l : List ℕ). length (before_nul l)) IsNul IsOther nothing none-before one-more bs r h
+
+-- for the crates above: the loop over an item's bytes: none of the n that were passed is a NUL
 pub record Uncut (w : ℕ) (s : List ℕ) (i at n : ℕ) : Type 0 where
   pub whole : length (char_at w s i) ≡ n + length (before_nul (take (w - n) (drop (at + n) s)))
   pub sound : n ≤ w

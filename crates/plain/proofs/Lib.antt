@@ -1,6 +1,5 @@
 pub mod Each
 pub mod Rules
-pub mod Cells
 pub mod Places
 pub mod Items
 pub mod Ends

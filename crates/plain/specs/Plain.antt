@@ -1,13 +1,14 @@
 -- Plain blocks: their bytes, their rules and their rows. Assumes nothing.
-use Rattle.std.specs.Prelude.{ℕ, zero, suc, ◌+◌, ◌-◌, ◌*◌, Bool, true, false, cond, not, ◌&&◌, ◌||◌, List, [], ◌∷◌, ◌++◌, map, ltb, leb, eqb, ℤ, length, take, drop, replicate}
+use Rattle.std.specs.Prelude.{ℕ, zero, suc, ◌+◌, ◌-◌, ◌*◌, Bool, true, cond, not, ◌&&◌, ◌||◌, List, [], ◌∷◌, ◌++◌, map, ltb, leb, eqb, ℤ, length, take, drop, replicate}
 use Rattle.encode.specs.Bytes.{little, number}
-use Rattle.encode.specs.Kinds.{width_of, encoded, decoded}
+use Rattle.encode.specs.Kinds.{laid_as, wide_as, width_of, value_as, encoded, decoded}
 use Rattle.encode.specs.declared.Primitive.{Primitive}
+use Rattle.encode.specs.declared.Shape.{Shape}
 use Rattle.encode.specs.declared.Kind.{Kind}
 use Rattle.encode.specs.declared.Kind.TheVariants.{Fixed, Char, Blob}
 use Rattle.limits.specs.Refusals.{CUT, LENGTH, ENDS, TEXT}
 use Rattle.utf8.specs.Utf8.{is_text}
-use Rattle.plain.specs.Rows.{Row, null, int, bytes, int_in, bytes_in}
+use Rattle.plain.specs.Rows.{Row, int, bytes, int_in, bytes_in}
 use Rattle.plain.specs.Rules.{◌if◌, first_of}
 
 -- one after another
@@ -65,6 +66,10 @@ last_of e [] = e
 last_of e (e' ∷ es) = last_of e' es
 
 -- ---- the rows: item i of n
+-- the value of a kind of a shape; of a kind
+unfoldable pub shaped_at : Shape → List ℕ → ℕ → ℤ
+shaped_at k b i = value_as (laid_as k) (take (wide_as k) (drop (i * wide_as k) b))
+
 unfoldable pub fixed_at : Primitive → List ℕ → ℕ → ℤ
 fixed_at p b i = decoded p (take (width_of p) (drop (i * width_of p) b))
 

@@ -1,6 +1,6 @@
 // The last of the plain rules: whether the items of char and of string are text. First one look at all their bytes, of which none is
 // above 127 in most columns; and otherwise item by item.
-ghost use Rattle.std.specs.Prelude.{◌≡◌, ◌+◌, ◌*◌, ◌<◌, ◌≤◌, length};
+ghost use Rattle.std.specs.Prelude.{◌≡◌, ◌+◌, ◌*◌, ◌<◌, ◌≤◌, length, take, drop};
 ghost use Rattle.encode.specs.Kinds.{blob, string};
 ghost use Rattle.encode.specs.declared.Kind.TheVariants.{Char};
 ghost use Rattle.limits.specs.Limits.{MOST_ITEMS};
@@ -8,30 +8,53 @@ ghost use Rattle.utf8.specs.Utf8.{is_text};
 ghost use Rattle.utf8.specs.States.{class_table, move_table};
 ghost use Rattle.plain.specs.Plain.{char_at, blob_at, lengths_number, all_text};
 
+// The tables of the walk over text, laid out once for many items.
+#[derive(Drop)]
+struct Tables {
+    classes: [u8; 256],
+    moves: [u8; 108],
+    ghost are: { (classes ≡ class_table) × (moves ≡ move_table) },
+}
+
+impl Tables {
+    fn new() -> Tables {
+        Tables {
+            classes: utf8::tables::CLASSES,
+            moves: utf8::tables::MOVES,
+        }
+    }
+
+    // Whether the `len` bytes from `from` on are text.
+    fn are_text(&self, s: &[u8], from: usize, len: usize) -> bool
+        requires { from + len ≤ length s.now }
+        ensures { result ≡ is_text (take len (drop from s.now)) }
+    {
+        utf8::is_text_by(&self.classes, &self.moves, s, from, len)
+    }
+}
+
 // ---- char, up to the first NUL
 
-// Whether item `i` is text, by the tables of the walk.
-fn char_is_text(classes: &[u8; 256], moves: &[u8; 108], w: usize, s: &[u8], i: usize) -> bool
-    requires { (classes.now ≡ class_table) × (moves.now ≡ move_table) × (i < MOST_ITEMS) × (w < 256) × (i * w + w ≤ length s.now) }
+// Whether item `i` is text.
+fn char_is_text(tables: &Tables, w: usize, s: &[u8], i: usize) -> bool
+    requires { (i < MOST_ITEMS) × (w < 256) × (i * w + w ≤ length s.now) }
     ensures { result ≡ is_text (char_at w s.now i) }
 {
     let at = i * w;
     if utf8::is_ascii(s, at, w) {
         return true;
     }
-    utf8::is_text_by(classes, moves, s, at, super::char_len(s, i, w))
+    tables.are_text(s, at, super::char_len(s, i, w))
 }
 
-fn chars_one_by_one(classes: &[u8; 256], moves: &[u8; 108], w: usize, n: usize, s: &[u8]) -> bool
-    requires { (classes.now ≡ class_table) × (moves.now ≡ move_table) × (n ≤ MOST_ITEMS) × (w < 256) × (n * w ≤ length s.now) }
+fn chars_one_by_one(tables: &Tables, w: usize, n: usize, s: &[u8]) -> bool
+    requires { (n ≤ MOST_ITEMS) × (w < 256) × (n * w ≤ length s.now) }
     ensures { result ≡ all_text (Char w) n s.now }
 {
-    let mut i = 0;
-    while i < n {
-        if !char_is_text(classes, moves, w, s, i) {
+    for i in 0..n {
+        if !char_is_text(tables, w, s, i) {
             return false;
         }
-        i += 1;
     }
     true
 }
@@ -44,16 +67,14 @@ pub fn chars_are_text(w: usize, n: usize, s: &[u8]) -> bool
     if utf8::is_ascii(s, 0, s.len()) {
         return true;
     }
-    let classes = utf8::tables::CLASSES;
-    let moves = utf8::tables::MOVES;
-    chars_one_by_one(&classes, &moves, w, n, s)
+    chars_one_by_one(&Tables::new(), w, n, s)
 }
 
 // ---- string, whole
 
-// Whether item `i` is text, by the tables of the walk.
-fn string_is_text(classes: &[u8; 256], moves: &[u8; 108], n: usize, s: &[u8], i: usize) -> bool
-    requires { (classes.now ≡ class_table) × (moves.now ≡ move_table) × (i < n) × (n ≤ MOST_ITEMS) × (lengths_number blob n s.now ≡ 0) }
+// Whether item `i` is text.
+fn string_is_text(tables: &Tables, n: usize, s: &[u8], i: usize) -> bool
+    requires { (i < n) × (n ≤ MOST_ITEMS) × (lengths_number blob n s.now ≡ 0) }
     ensures { result ≡ is_text (blob_at n s.now i) }
 {
     let item = super::blob_at(n, s, i);
@@ -62,19 +83,17 @@ fn string_is_text(classes: &[u8; 256], moves: &[u8; 108], n: usize, s: &[u8], i:
     if utf8::is_ascii(s, from, len) {
         return true;
     }
-    utf8::is_text_by(classes, moves, s, from, len)
+    tables.are_text(s, from, len)
 }
 
-fn strings_one_by_one(classes: &[u8; 256], moves: &[u8; 108], n: usize, s: &[u8]) -> bool
-    requires { (classes.now ≡ class_table) × (moves.now ≡ move_table) × (n ≤ MOST_ITEMS) × (lengths_number blob n s.now ≡ 0) }
+fn strings_one_by_one(tables: &Tables, n: usize, s: &[u8]) -> bool
+    requires { (n ≤ MOST_ITEMS) × (lengths_number blob n s.now ≡ 0) }
     ensures { result ≡ all_text string n s.now }
 {
-    let mut i = 0;
-    while i < n {
-        if !string_is_text(classes, moves, n, s, i) {
+    for i in 0..n {
+        if !string_is_text(tables, n, s, i) {
             return false;
         }
-        i += 1;
     }
     true
 }
@@ -88,7 +107,5 @@ pub fn strings_are_text(n: usize, s: &[u8]) -> bool
     if utf8::is_ascii(s, from, s.len() - from) {
         return true;
     }
-    let classes = utf8::tables::CLASSES;
-    let moves = utf8::tables::MOVES;
-    strings_one_by_one(&classes, &moves, n, s)
+    strings_one_by_one(&Tables::new(), n, s)
 }

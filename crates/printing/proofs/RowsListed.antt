@@ -8,22 +8,18 @@ use lib.Dec.{ltb, eqb}
 use lib.IntN.{ℤ}
 use lib.ListN.{length, take, drop, length-drop, length-replicate}
 use borrow.Author.Tests.{eq-eqb, ne_eqb, ltb-false}
+use Rattle.std.specs.Prelude.{Result, Ok, Err, Option, Some, None}
 use Rattle.limits.specs.Limits.{MOST_INPUT}
 use Rattle.limits.specs.Refusals.{COLUMN, LIMIT, CUT}
 use Rattle.encode.specs.declared.Kind.{Kind}
-use Rattle.encode.specs.declared.FoundKind.{FoundKind}
-use Rattle.encode.specs.declared.FoundKind.TheVariants.{Unknown}
 use Rattle.encode.specs.Kinds.{kind_of}
 use Rattle.format.specs.declared.Encoding.{Encoding}
 use Rattle.format.specs.declared.Column.{Column}
-use Rattle.format.specs.declared.Column.TheVariants.{Of, Unknown as NoColumn}
-use Rattle.format.specs.Blocks.{with_encoding, column_of}
+use Rattle.format.specs.Blocks.{with_encoding, column_of, column}
 use Rattle.block.specs.declared.Reader.{Reader}
 use Rattle.block.specs.declared.Given.{Given}
 use Rattle.block.specs.declared.Left.{Left}
-use Rattle.block.specs.declared.Opened.{Opened}
-use Rattle.block.specs.declared.Opened.TheVariants.{Open, Refused}
-use Rattle.block.specs.Reading.{areas, opened, left, remaining_in, remaining, read}
+use Rattle.block.specs.Reading.{areas, opened, remaining_in, remaining, read}
 use Rattle.descriptor.specs.declared.Descriptor.{Descriptor}
 use Rattle.descriptor.specs.Descriptor.{descriptor_of, described_opened}
 use Rattle.text.specs.Input.{input_opened, block_in}
@@ -92,20 +88,20 @@ module _ {n : ℕ} {r₀ : Reader} {b bytes₀ text₀ bytes text : List ℕ} {r
 
 -- ---- the record
 -- a record that contradicts nothing names a kind
-known-kind : (f : FoundKind) (encoding : ℕ) (k : Kind) (e : Encoding) → with_encoding f encoding ≡ Of k e → f ≡ Unknown → ⊥
+known-kind : (f : Option Kind) (encoding : ℕ) (k : Kind) (e : Encoding) → with_encoding f encoding ≡ Some (column k e) → f ≡ None → ⊥
 unfolding with_encoding
 known-kind f encoding k e q h =
-    let z : NoColumn ≡ Of k e = ap (λ (g : FoundKind). with_encoding g encoding) (sym h) ∙ q in
+    let z : None ≡ Some (column k e) = ap (λ (g : Option Kind). with_encoding g encoding) (sym h) ∙ q in
     let y : ◌≡◌ {A = ℕ} 0 1 = cc in
     omega arith
 
-pub kind-named : (r : Reader) → (remaining r).number ≡ 0 → kind_of r.kind r.width ≡ Unknown → ⊥
+pub kind-named : (r : Reader) → (remaining r).number ≡ 0 → kind_of r.kind r.width ≡ None → ⊥
 unfolding remaining remaining_in column_of
 kind-named r z h = go (column_of r.kind r.encoding r.width) refl z
   where
-    go : (c : Column) → column_of r.kind r.encoding r.width ≡ c → (remaining_in c r).number ≡ 0 → ⊥
-    go NoColumn q y = omega arith
-    go (Of k e) q y = known-kind (kind_of r.kind r.width) r.encoding k e q h
+    go : (c : Option Column) → column_of r.kind r.encoding r.width ≡ c → (remaining_in c r).number ≡ 0 → ⊥
+    go None q y = omega arith
+    go (Some c) q y = known-kind (kind_of r.kind r.width) r.encoding c.kind c.encoding q h
 
 module _ (r : Reader) (b : List ℕ) {l : Left} (q : l ≡ remaining r) where
   told : {t : Bool} → eqb l.number 0 ≡ t → cond t (rows_refused (min l.rows 1000) r b MOST_INPUT) l.number ≡ listed r b
@@ -130,24 +126,24 @@ rows-given {b = b} room l (suc m) r is g =
     ap (λ (t : Bool). cond t (rows_refused m (next_row r b room).reader b room) (next_row r b room).number) (eq-eqb (next_row r b room).number 0 x.number)
     ∙ rows-given room l m (next_row r b room).reader x.rest x.stands
 
-pub opened-listed : (kind encoding width n : ℕ) (b : List ℕ) (r : Reader) → opened kind encoding width n b ≡ Open r → length b ≤ MOST_INPUT → listed r b ≡ 0
+pub opened-listed : (kind encoding width n : ℕ) (b : List ℕ) (r : Reader) → opened kind encoding width n b ≡ Ok r → length b ≤ MOST_INPUT → listed r b ≡ 0
 unfolding after_all
 opened-listed kind encoding width n b r here l =
     let z = (counts-add-up kind encoding width n b r here []).0 in
     sym (rows-listed r b refl z refl (sym (rows-given MOST_INPUT l (min (remaining r).rows 1000) r _ (found kind encoding width n b r here).stands)))
 
 -- of an input that is opened
-pub input-listed : (s : List ℕ) (r : Reader) → Open r ≡ input_opened s → listed r (block_in s) ≡ 0
+pub input-listed : (s : List ℕ) (r : Reader) → Ok r ≡ input_opened s → listed r (block_in s) ≡ 0
 unfolding input_opened block_in described_opened
 input-listed s r q = go (ltb (length s) 8) (ltb MOST_INPUT (length s)) (eqb d.zero 0) refl q
   where
     d : Descriptor
     d = descriptor_of (take 8 s)
 
-    o : Opened
+    o : Result Reader ℕ
     o = opened d.kind d.encoding d.width d.rows (drop 8 s)
 
-    go : (x y z : Bool) → ltb MOST_INPUT (length s) ≡ y → Open r ≡ cond x (Refused CUT) (cond y (Refused LIMIT) (cond z o (Refused COLUMN)))
+    go : (x y z : Bool) → ltb MOST_INPUT (length s) ≡ y → Ok r ≡ cond x (Err CUT) (cond y (Err LIMIT) (cond z o (Err COLUMN)))
         → listed r (cond x s (drop 8 s)) ≡ 0
     go true y z u p = let z : ◌≡◌ {A = ℕ} 0 1 = cc in absurd (omega arith)
     go false true z u p = let z : ◌≡◌ {A = ℕ} 0 1 = cc in absurd (omega arith)

@@ -1,17 +1,15 @@
 -- What a listing answers its caller: no contract can say what is written. Assumes nothing.
-use Rattle.std.specs.Prelude.{ℕ, zero, suc, min, cond, List, [], ◌∷◌, eqb, pos, replicate}
+use Rattle.std.specs.Prelude.{ℕ, zero, suc, min, cond, List, [], ◌∷◌, eqb, pos, replicate, Result, Ok, Err}
 use Rattle.limits.specs.Limits.{MOST_INPUT}
 use Rattle.block.specs.declared.Reader.{Reader}
 use Rattle.block.specs.declared.Given.{Given}
 use Rattle.block.specs.declared.Left.{Left}
-use Rattle.block.specs.declared.Opened.{Opened}
-use Rattle.block.specs.declared.Opened.TheVariants.{Open, Refused}
 use Rattle.block.specs.Reading.{Areas, areas, remaining, read}
 
 -- 0, or the number that is printed behind `refused`
-unfoldable pub refusal_of : Opened → ℕ
-refusal_of (Open r) = 0
-refusal_of (Refused e) = e
+unfoldable pub refusal_of : Result Reader ℕ → ℕ
+refusal_of (Ok r) = 0
+refusal_of (Err e) = e
 
 -- ---- the rows of a reader, a read for each
 -- the areas of one row, with so much room for its bytes; what they hold has no part in the answer

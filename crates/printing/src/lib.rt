@@ -2,25 +2,26 @@
 // the other, so that a listing of any length needs the room of one row only.
 #![tactic(auto)]
 
-ghost use Rattle.std.specs.Prelude.{◌≡◌, length, take};
+ghost use Rattle.std.specs.Prelude.{◌≡◌, length};
 ghost use Rattle.limits.specs.Limits.{MOST_INPUT};
 ghost use Rattle.block.specs.Reading.{remaining};
 ghost use Rattle.text.specs.Input.{input_opened};
 ghost use Rattle.printing.specs.Printing.{refusal_of, next_row, rows_refused, listed};
 
-use block::{Given, Opened, Reader};
-use encode::{FoundKind, Kind};
+use block::{Given, Reader};
+use encode::Kind;
 use limits::refusal;
-use text::Made;
 
-// Lists the input on standard output. What comes back is 0 or the number that was printed behind `refused`.
+// Lists the input on standard output. What comes back is 0 or the number that was printed behind `refused`. It is a number and no `Refusal`
+// because the calls of a reader, which C has too, answer records with numbers.
 pub fn print(input: &[u8]) -> u8
     ensures { result ≡ refusal_of (input_opened input.now) }
 {
     let answer = text::open(input);
     match answer {
-        Opened::Open(reader) => print_rows(reader, text::block_of(input)),
-        Opened::Refused(number) => {
+        Ok(reader) => print_rows(reader, text::block_of(input)),
+        Err(refusal) => {
+            let number = u8::from(refusal);
             say_refused(number);
             number
         }
@@ -53,16 +54,6 @@ fn say(text: &[u8]) {
     io::write_all(1, text);
 }
 
-// The first n bytes, or all if there are fewer.
-fn first(s: &[u8], n: usize) -> &[u8]
-    ensures { result.now ≡ take n s.now }
-{
-    if s.len() <= n {
-        return s;
-    }
-    &s[..n]
-}
-
 // A word and a number.
 fn say_line(word: &[u8], n: u64) {
     say(word);
@@ -88,8 +79,7 @@ fn say_rows(reader: Reader, n: usize, block: &[u8]) -> u8
     requires { (remaining reader).number ≡ 0 }
     ensures { result ≡ rows_refused n reader block.now MOST_INPUT }
 {
-    let found = encode::kind_of(reader.kind, reader.width);
-    let FoundKind::Known(kind) = found else {
+    let Some(kind) = encode::kind_of(reader.kind, reader.width) else {
         say_refused(refusal::DISAGREE);
         return refusal::DISAGREE;
     };
@@ -117,14 +107,12 @@ fn say_each(
     ensures { result ≡ rows_refused n from block.now (length bytes.old) }
 {
     let mut reader = from;
-    let mut i = 0;
-    while i < n {
+    for i in 0..n {
         let answer = say_next(reader, kind, i, block, bytes, text);
         if answer.number != 0 {
             return answer.number;
         }
         reader = answer.reader;
-        i += 1;
     }
     0
 }
@@ -152,7 +140,7 @@ fn say_next(
         kind,
         flags[0] != 0,
         values[0],
-        first(bytes, answer.bytes),
+        bytes.get(..answer.bytes).unwrap_or(bytes),
         text,
     );
     say_row(index, made, text);
@@ -160,12 +148,12 @@ fn say_next(
 }
 
 // The row's index and its text, which the room always holds.
-fn say_row(index: usize, made: Made, text: &[u8]) {
-    let Made::Text(n) = made else {
+fn say_row(index: usize, made: Option<usize>, text: &[u8]) {
+    let Some(n) = made else {
         return;
     };
     io::print_decimal(1, index as u64);
     say(b" ");
-    say(first(text, n));
+    say(text.get(..n).unwrap_or(text));
     say(b"\n");
 }

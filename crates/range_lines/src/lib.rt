@@ -18,10 +18,8 @@ fn say_range(first: usize, last: usize) {
 pub fn say_ranges(n: usize, firsts: &[usize], lasts: &[usize])
     requires { (n ≤ length firsts.now) × (n ≤ length lasts.now) }
 {
-    let mut i = 0;
-    while i < n {
-        say_range(firsts[i], lasts[i]);
-        i += 1;
+    for (first, last) in firsts[..n].iter().zip(&lasts[..n]) {
+        say_range(*first, *last);
     }
     say(b"end\n");
 }

@@ -2,7 +2,7 @@
 use Prim.Native.Nat.{ℕ, zero, suc, ◌+◌, ◌-◌, ◌^◌, ◌≤◌, ◌<◌}
 use native.Mathlib.Nat.{zero-add, add-zero}
 use native.Mathlib.Omega.{arith}
-use mathlib.Core.Bool.{Bool, true, false, cond, false≢true}
+use mathlib.Core.Bool.{Bool, true, false, false≢true}
 use mathlib.Core.List.{List, [], ◌∷◌, ◌++◌, map, append-nil, append_assoc, map-append}
 use mathlib.Core.Logic.{⊎_elim}
 use mathlib.Core.Path.{◌≡◌, refl, sym, ap, ◌∙◌}
@@ -11,9 +11,10 @@ use lib.Seq.{sets, length-sets, take_all, take-nil, take-append-le}
 use borrow.Author.Tests.{lt-ltb, le-ltb}
 use Rattle.area.specs.Area.{over}
 use Rattle.area.proofs.Laws.{lt-or-ge, sets-append, over-sets, over_none}
+use Rattle.std.specs.Prelude.{Option, Some, None, unwrap_or}
 use Rattle.ranges.specs.declared.Mark.{Mark}
-use Rattle.ranges.specs.Ranges.{Range, range, closed, since, ranges_from, ranges_of}
-use Rattle.ranges.specs.Recording.{mark, noted, ended, firsts_ended, lasts_ended, opened, passed, added, firsts_added, lasts_added, Counted, open_of, put_down, Recorded}
+use Rattle.ranges.specs.Ranges.{Range, range, ranges_from, ranges_of}
+use Rattle.ranges.specs.Recording.{mark, noted, ended, ended_by, firsts_ended, firsts_by, lasts_ended, lasts_by, opened, passed, added, firsts_added, lasts_added, Counted, put_down, Recorded}
 use Rattle.ranges.proofs.Steps.{Ends, Adds, nothing-added, marked-added, passed-added}
 
 -- ---- numbers put down in a list
@@ -56,37 +57,36 @@ put_next xs vs v = ⊎_elim there behind (lt-or-ge (length vs) (length xs))
         rw (put-sets xs vs, put-sets xs all, take-append-le (length xs) vs (v ∷ []), length-sets xs 0 (take (length xs) vs), le-ltb (length vs) (length xs) h)
 
 -- ---- the ranges of a run of places and of those behind it
-still_marked : (n i f : ℕ) (rest : List Bool) → ranges_from i (since f) (replicate n true ++ rest) ≡ ranges_from (i + n) (since f) rest
+still_marked : (n i f : ℕ) (rest : List Bool) → ranges_from i (Some f) (replicate n true ++ rest) ≡ ranges_from (i + n) (Some f) rest
 unfolding ranges_from
 still_marked zero i f rest = rw add-zero
 still_marked (suc n) i f rest = let e : suc i + n ≡ i + suc n = omega arith in rw (← e) (still_marked n (suc i) f rest)
 
-still-others : (n i : ℕ) (rest : List Bool) → ranges_from i closed (replicate n false ++ rest) ≡ ranges_from (i + n) closed rest
+still-others : (n i : ℕ) (rest : List Bool) → ranges_from i None (replicate n false ++ rest) ≡ ranges_from (i + n) None rest
 unfolding ranges_from
 still-others zero i rest = rw add-zero
 still-others (suc n) i rest = let e : suc i + n ≡ i + suc n = omega arith in rw (← e) (still-others n (suc i) rest)
 
 -- a range goes on or begins
 marked-run :
-    (begun : Bool) (first next n : ℕ) (rest : List Bool)
-    → ranges_from next (open_of begun first) (replicate (suc n) true ++ rest) ≡ ranges_from (next + suc n) (since (cond begun first next)) rest
-unfolding ranges_from open_of
-marked-run true first next n rest = still_marked (suc n) next first rest
-marked-run false first next n rest = let e : suc next + n ≡ next + suc n = omega arith in rw (← e) (still_marked n (suc next) next rest)
+    (since : Option ℕ) (next n : ℕ) (rest : List Bool)
+    → ranges_from next since (replicate (suc n) true ++ rest) ≡ ranges_from (next + suc n) (Some (unwrap_or since next)) rest
+unfolding ranges_from
+marked-run (Some first) next n rest = still_marked (suc n) next first rest
+marked-run None next n rest = let e : suc next + n ≡ next + suc n = omega arith in rw (← e) (still_marked n (suc next) next rest)
 
 -- the open range ends
 others-run :
-    (begun : Bool) (first next n : ℕ) (rest : List Bool)
-    → ranges_from next (open_of begun first) (replicate (suc n) false ++ rest) ≡ ranges_from next (open_of begun first) [] ++ ranges_from (next + suc n) closed rest
-unfolding ranges_from open_of
-others-run true first next n rest =
+    (since : Option ℕ) (next n : ℕ) (rest : List Bool)
+    → ranges_from next since (replicate (suc n) false ++ rest) ≡ ranges_from next since [] ++ ranges_from (next + suc n) None rest
+unfolding ranges_from
+others-run (Some first) next n rest =
     let e : suc next + n ≡ next + suc n = omega arith in
     rw (← e) (ap (λ (rs : List Range). range first (next - 1) ∷ rs) (still-others n (suc next) rest))
-others-run false first next n rest = still-others (suc n) next rest
+others-run None next n rest = still-others (suc n) next rest
 
 -- ---- what is recorded of the places so far
-pub recorded-start : (fs ls : List ℕ) → Recorded [] (mark false 0 0 0) fs ls fs ls
-unfolding open_of
+pub recorded-start : (fs ls : List ℕ) → Recorded [] (mark None 0 0) fs ls fs ls
 recorded-start fs ls =
     record {
       done = [];
@@ -100,31 +100,36 @@ recorded-start fs ls =
 
 -- one of the two numbers of each range, with that of the range that ends
 ended-list :
-    (get : Range → ℕ) (done : List Range) (xs : List ℕ) (begun : Bool) (first next count : ℕ) → count ≡ length done
-    → cond begun (noted (put_down xs (map get done)) count (get (range first (next - 1)))) (put_down xs (map get done))
-    ≡ put_down xs (map get (done ++ ranges_from next (open_of begun first) []))
-unfolding ranges_from open_of
-ended-list get done xs true first next count c =
-    rw (c, ← length-map done get, map-append get done (range first (next - 1) ∷ [])) (put_next xs (map get done) (get (range first (next - 1))))
-ended-list get done xs false first next count c = rw append-nil
+    (get : Range → ℕ) (done : List Range) (xs : List ℕ) (r : Range) (count : ℕ) → count ≡ length done
+    → noted (put_down xs (map get done)) count (get r) ≡ put_down xs (map get (done ++ (r ∷ [])))
+ended-list get done xs r count c =
+    rw (c, ← length-map done get, map-append get done (r ∷ [])) (put_next xs (map get done) (get r))
+
+firsts-list :
+    (done : List Range) (xs : List ℕ) (since : Option ℕ) (m : Mark) → m.count ≡ length done
+    → firsts_by since m (put_down xs (map (λ r. r.first) done)) ≡ put_down xs (map (λ r. r.first) (done ++ ranges_from m.next since []))
+unfolding ranges_from firsts_by
+firsts-list done xs (Some f) m c = ended-list (λ r. r.first) done xs (range f (m.next - 1)) m.count c
+firsts-list done xs None m c = rw append-nil
+
+lasts-list :
+    (done : List Range) (xs : List ℕ) (since : Option ℕ) (m : Mark) → m.count ≡ length done
+    → lasts_by since m (put_down xs (map (λ r. r.last) done)) ≡ put_down xs (map (λ r. r.last) (done ++ ranges_from m.next since []))
+unfolding ranges_from lasts_by
+lasts-list done xs (Some f) m c = ended-list (λ r. r.last) done xs (range f (m.next - 1)) m.count c
+lasts-list done xs None m c = rw append-nil
 
 -- and how many they are
-ended-count : (done : List Range) (m : Mark) → m.count ≡ length done → (ended m).count ≡ length (done ++ ranges_from m.next (open_of m.begun m.first) [])
-unfolding ended ranges_from open_of
-ended-count done m c = go m.begun refl
-  where
-    go : (b : Bool) → m.begun ≡ b → (ended m).count ≡ length (done ++ ranges_from m.next (open_of m.begun m.first) [])
-    go true e = rw e (omega (arith, c, length-append done (range m.first (m.next - 1) ∷ [])))
-    go false e = rw (e, append-nil) c
+ended-count : (done : List Range) (since : Option ℕ) (m : Mark) → m.count ≡ length done → (ended_by since m).count ≡ length (done ++ ranges_from m.next since [])
+unfolding ended_by ranges_from
+ended-count done (Some f) m c = omega (arith, c, length-append done (range f (m.next - 1) ∷ []))
+ended-count done None m c = rw append-nil c
 
 -- an open range has a place that counts for it
-ended-few : (m : Mark) → Counted m → (ended m).count ≤ m.next
-unfolding ended
-ended-few m k = go m.begun refl
-  where
-    go : (b : Bool) → m.begun ≡ b → (ended m).count ≤ m.next
-    go true e = rw e (k.one e)
-    go false e = rw e k.few
+ended-few : (since : Option ℕ) (m : Mark) → m.since ≡ since → Counted m → (ended_by since m).count ≤ m.next
+unfolding ended_by
+ended-few (Some f) m e k = k.one (rw e refl)
+ended-few None m e k = k.few
 
 module _ {bs : List Bool} {m : Mark} {fs₀ ls₀ fs ls : List ℕ} (f : Recorded bs m fs₀ ls₀ fs ls) where
   -- the lists stay as long as they are
@@ -136,28 +141,26 @@ module _ {bs : List Bool} {m : Mark} {fs₀ ls₀ fs ls : List ℕ} (f : Recorde
 
   -- with the range that ends now
   abbrev all : List Range
-  all = f.done ++ ranges_from m.next (open_of m.begun m.first) []
+  all = f.done ++ ranges_from m.next m.since []
 
   firsts-ended : firsts_ended m fs ≡ put_down fs₀ (map (λ r. r.first) all)
-  unfolding firsts_ended
-  firsts-ended = rw f.firsts (ended-list (λ r. r.first) f.done fs₀ m.begun m.first m.next m.count f.count)
+  firsts-ended = rw f.firsts (firsts-list f.done fs₀ m.since m f.count)
 
   lasts-ended : lasts_ended m ls ≡ put_down ls₀ (map (λ r. r.last) all)
-  unfolding lasts_ended
-  lasts-ended = rw f.lasts (ended-list (λ r. r.last) f.done ls₀ m.begun m.first m.next m.count f.count)
+  lasts-ended = rw f.lasts (lasts-list f.done ls₀ m.since m f.count)
 
   pub recorded-end :
       ((ended m).count ≡ length (ranges_of bs)) × (firsts_ended m fs ≡ put_down fs₀ (map (λ r. r.first) (ranges_of bs)))
       × (lasts_ended m ls ≡ put_down ls₀ (map (λ r. r.last) (ranges_of bs)))
   recorded-end =
       let whole : ranges_of bs ≡ all = ap ranges_of (sym (append-nil bs)) ∙ f.same [] in
-      rw whole (ended-count f.done m f.count, firsts-ended, lasts-ended)
+      rw whole (ended-count f.done m.since m f.count, firsts-ended, lasts-ended)
 
   length_more : (on : Bool) (n : ℕ) → m.next + n ≡ length (bs ++ replicate n on)
   length_more on n = omega (arith, f.next, length-append bs (replicate n on), length-replicate n on)
 
   recorded_marked : (n : ℕ) → m.next + suc n < 2 ^ 64 → Recorded (bs ++ replicate (suc n) true) (opened m (suc n)) fs₀ ls₀ fs ls
-  unfolding opened open_of
+  unfolding opened
   recorded_marked n h =
       record {
         done = f.done;
@@ -165,7 +168,7 @@ module _ {bs : List Bool} {m : Mark} {fs₀ ls₀ fs ls : List ℕ} (f : Recorde
             λ rest.
             ap ranges_of (append_assoc bs (replicate (suc n) true) rest)
             ∙ f.same (replicate (suc n) true ++ rest)
-            ∙ ap (λ (rs : List Range). f.done ++ rs) (marked-run m.begun m.first m.next n rest);
+            ∙ ap (λ (rs : List Range). f.done ++ rs) (marked-run m.since m.next n rest);
         count = f.count;
         next = length_more true (suc n);
         counted = record { few = omega (arith, f.counted.few); one = λ e. omega (arith, f.counted.few); short = h };
@@ -175,7 +178,7 @@ module _ {bs : List Bool} {m : Mark} {fs₀ ls₀ fs ls : List ℕ} (f : Recorde
 
   recorded-others :
       (n : ℕ) → m.next + suc n < 2 ^ 64 → Recorded (bs ++ replicate (suc n) false) (passed m (suc n)) fs₀ ls₀ (firsts_ended m fs) (lasts_ended m ls)
-  unfolding passed open_of
+  unfolding passed
   recorded-others n h =
       record {
         done = all;
@@ -183,11 +186,11 @@ module _ {bs : List Bool} {m : Mark} {fs₀ ls₀ fs ls : List ℕ} (f : Recorde
             λ rest.
             ap ranges_of (append_assoc bs (replicate (suc n) false) rest)
             ∙ f.same (replicate (suc n) false ++ rest)
-            ∙ ap (λ (rs : List Range). f.done ++ rs) (others-run m.begun m.first m.next n rest)
-            ∙ sym (append_assoc f.done (ranges_from m.next (open_of m.begun m.first) []) (ranges_from (m.next + suc n) closed rest));
-        count = ended-count f.done m f.count;
+            ∙ ap (λ (rs : List Range). f.done ++ rs) (others-run m.since m.next n rest)
+            ∙ sym (append_assoc f.done (ranges_from m.next m.since []) (ranges_from (m.next + suc n) None rest));
+        count = ended-count f.done m.since m f.count;
         next = length_more false (suc n);
-        counted = record { few = omega (arith, ended-few m f.counted); one = λ e. absurd (false≢true e); short = h };
+        counted = record { few = omega (arith, ended-few m.since m refl f.counted); one = λ e. absurd (false≢true e); short = h };
         firsts = firsts-ended;
         lasts = lasts-ended;
       }

@@ -6,8 +6,9 @@ use mathlib.Core.List.{List}
 use mathlib.Core.Path.{◌≡◌, refl, sym, ◌∙◌}
 use lib.ListN.{length, set}
 use borrow.Author.Tests.{lt-ltb, le-ltb, eq-eqb, ne_eqb}
+use Rattle.std.specs.Prelude.{Option, Some, None, is_some}
 use Rattle.ranges.specs.declared.Mark.{Mark}
-use Rattle.ranges.specs.Recording.{mark, noted, ended, firsts_ended, lasts_ended, opened, passed, added, firsts_added, lasts_added}
+use Rattle.ranges.specs.Recording.{mark, noted, ended, ended_by, firsts_ended, firsts_by, lasts_ended, lasts_by, opened, passed, added, firsts_added, lasts_added}
 
 -- ---- a number at a slot
 module _ (xs : List ℕ) (i x : ℕ) where
@@ -19,43 +20,30 @@ module _ (xs : List ℕ) (i x : ℕ) where
   unfolding noted
   no_slot h = rw (le-ltb i (length xs) h)
 
--- ---- marked places more
-module _ (m : Mark) (n : ℕ) where
-  abbrev longer : ℕ → Mark
-  longer first = mark true first (m.next + n) m.count
-
-  pub goes_on : {first : ℕ} → m.begun ≡ true → first ≡ m.first → longer first ≡ opened m n
-  unfolding opened
-  goes_on b e = rw (b, e)
-
-  pub begins : {first : ℕ} → m.begun ≡ false → first ≡ m.next → longer first ≡ opened m n
-  unfolding opened
-  begins b e = rw (b, e)
-
 -- ---- the open range ended
 module _ (m : Mark) (firsts lasts : List ℕ) where
   -- a mark and what the lists then hold
   abbrev pub Ends : Mark → List ℕ → List ℕ → Type 0
   Ends r firsts' lasts' = (r ≡ ended m) × ((firsts' ≡ firsts_ended m firsts) × (lasts' ≡ lasts_ended m lasts))
 
-  pub nothing_ends : m.begun ≡ false → Ends m firsts lasts
-  unfolding ended firsts_ended lasts_ended
+  pub nothing_ends : m.since ≡ None → Ends m firsts lasts
+  unfolding ended_by firsts_by lasts_by
   nothing_ends b = rw b (refl, (refl, refl))
 
   pub put-down :
-      {firsts' lasts' : List ℕ} → m.begun ≡ true → firsts' ≡ noted firsts m.count m.first → lasts' ≡ noted lasts m.count (m.next - 1)
-      → Ends (mark false m.first m.next (m.count + 1)) firsts' lasts'
-  unfolding ended firsts_ended lasts_ended
+      {f : ℕ} {firsts' lasts' : List ℕ} → m.since ≡ Some f → firsts' ≡ noted firsts m.count f → lasts' ≡ noted lasts m.count (m.next - 1)
+      → Ends (mark None m.next (m.count + 1)) firsts' lasts'
+  unfolding ended_by firsts_by lasts_by
   put-down b f l = rw b (refl, (f, l))
 
 -- no range is open once it has ended
-pub ended-none : (m : Mark) → (ended m).begun ≡ false
-unfolding ended
-ended-none m = go m.begun refl
+pub ended-none : (m : Mark) → (ended m).since ≡ None
+unfolding ended_by
+ended-none m = go m.since refl
   where
-    go : (b : Bool) → m.begun ≡ b → (ended m).begun ≡ false
-    go true e = rw e
-    go false e = rw e
+    go : (o : Option ℕ) → m.since ≡ o → (ended m).since ≡ None
+    go (Some f) e = rw e refl
+    go None e = rw e refl
 
 -- ---- places more
 module _ (m : Mark) (on : Bool) (n : ℕ) (firsts lasts : List ℕ) where
@@ -77,7 +65,7 @@ module _ (m : Mark) (on : Bool) (n : ℕ) (firsts lasts : List ℕ) where
 
     pub others-added :
         {r : Mark} {firsts' lasts' : List ℕ} → on ≡ false → Ends m firsts lasts r firsts' lasts'
-        → Adds (mark r.begun r.first (m.next + n) r.count) firsts' lasts'
+        → Adds (mark r.since (m.next + n) r.count) firsts' lasts'
     unfolding passed
     others-added o e =
         let p = passed-added o in
@@ -91,10 +79,10 @@ same_truth false true e = e
 same_truth false false e = refl
 
 module _ (m : Mark) (on : Bool) (firsts lasts : List ℕ) where
-  pub goes-on-so : beq on m.begun ≡ true → Adds m on 1 firsts lasts (mark m.begun m.first (m.next + 1) m.count) firsts lasts
-  unfolding added firsts_added lasts_added opened passed ended firsts_ended lasts_ended
-  goes-on-so t = by on refl
+  pub goes-on-so : beq on (is_some m.since) ≡ true → Adds m on 1 firsts lasts (mark m.since (m.next + 1) m.count) firsts lasts
+  unfolding added firsts_added lasts_added opened passed ended_by firsts_by lasts_by
+  goes-on-so t = by m.since refl
     where
-      by : (b : Bool) → on ≡ b → Adds m on 1 firsts lasts (mark m.begun m.first (m.next + 1) m.count) firsts lasts
-      by true o = rw (← same_truth on m.begun t, o) (refl, (refl, refl))
-      by false o = rw (← same_truth on m.begun t, o) (refl, (refl, refl))
+      by : (o : Option ℕ) → m.since ≡ o → Adds m on 1 firsts lasts (mark m.since (m.next + 1) m.count) firsts lasts
+      by (Some f) o = let e : on ≡ true = same_truth on true (rw o at t) in rw (e, o) (refl, (refl, refl))
+      by None o = let e : on ≡ false = same_truth on false (rw o at t) in rw (e, o) (refl, (refl, refl))

@@ -2,25 +2,23 @@
 // isn't there the range is counted alone.
 #![tactic(auto)]
 
-ghost use Rattle.std.specs.Prelude.{◌≡◌, false, ◌+◌, ◌<◌, ◌^◌};
+ghost use Rattle.std.specs.Prelude.{◌≡◌, ◌+◌, ◌<◌, ◌^◌, None};
 ghost use Rattle.ranges.specs.Recording.{mark, noted, ended, firsts_ended, lasts_ended, opened, added, firsts_added, lasts_added, Counted};
 
-// Where marking stands: whether a range has begun and not ended, where it began, the next place, and how many ranges have ended.
+// Where marking stands: where the range that has begun and not ended began, if one has, the next place, and how many ranges have ended.
 #[derive(Clone, Copy)]
 pub struct Mark {
-    pub begun: bool,
-    pub first: usize,
+    pub since: Option<usize>,
     pub next: usize,
     pub count: usize,
 }
 
 // Before the first place.
 pub fn start() -> Mark
-    ensures { result ≡ mark false 0 0 0 }
+    ensures { result ≡ mark None 0 0 }
 {
     Mark {
-        begun: false,
-        first: 0,
+        since: None,
         next: 0,
         count: 0,
     }
@@ -52,10 +50,9 @@ impl Mark {
         ensures firsts_after { firsts.new ≡ firsts_added self on 1 firsts.old }
         ensures lasts_after { lasts.new ≡ lasts_added self on 1 lasts.old }
     {
-        if on == self.begun {
+        if on == self.since.is_some() {
             return Mark {
-                begun: self.begun,
-                first: self.first,
+                since: self.since,
                 next: self.next + 1,
                 count: self.count,
             };
@@ -64,33 +61,33 @@ impl Mark {
     }
 
     // The places that follow belong to the open range, or to one that begins with them.
+    #[tactic(auto, unfolding(crate::specs::Recording::opened))]
     fn opened(self, n: usize) -> Mark
         requires { self.next + n < 2 ^ 64 }
         ensures { result ≡ opened self n }
     {
         Mark {
-            begun: true,
-            first: if self.begun { self.first } else { self.next },
+            since: Some(self.since.unwrap_or(self.next)),
             next: self.next + n,
             count: self.count,
         }
     }
 
     // The open range ends before the next place, and is put down.
+    #[tactic(auto, unfolding(crate::specs::Recording::ended_by, crate::specs::Recording::firsts_by, crate::specs::Recording::lasts_by))]
     pub fn end(self, firsts: &mut [usize], lasts: &mut [usize]) -> Mark
         requires { Counted self }
         ensures value { result ≡ ended self }
         ensures firsts_after { firsts.new ≡ firsts_ended self firsts.old }
         ensures lasts_after { lasts.new ≡ lasts_ended self lasts.old }
     {
-        if !self.begun {
+        let Some(first) = self.since else {
             return self;
-        }
-        note(firsts, self.count, self.first);
+        };
+        note(firsts, self.count, first);
         note(lasts, self.count, self.next - 1);
         Mark {
-            begun: false,
-            first: self.first,
+            since: None,
             next: self.next,
             count: self.count + 1,
         }

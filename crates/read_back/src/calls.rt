@@ -1,103 +1,76 @@
 // Commands 3 to 5: opening, reads, a given block.
-use crate::showing::{show_named, show_rows};
-use crate::{Reading, named_at};
-use block::{Opened, Reader};
-use script::{first, number, past, refused, rest, say, show_size};
+use crate::showing::show_rows;
+use crate::{Named, Reading};
+use block::Reader;
+use limits::refusal::Refusal;
+use script::{first, refused, say, show};
 
 // The part as the block. Nothing, where it is too long.
 fn put(part: &[u8], block: &mut [u8]) {
     let n = part.len();
-    if block.len() < n {
-        return;
+    if n <= block.len() {
+        block[..n].copy_from_slice(part);
     }
-    area::copy(part, 0, n, block, 0);
 }
 
-fn give_block(s: &[u8], from: Reading, block: &mut [u8]) -> Reading {
-    let len = number(s, from.at);
-    put(first(rest(s, len.next), len.value), block);
-    say(b"given");
-    show_size(len.value);
-    let mut next = from;
-    next.at = past(len.next, len.value);
-    next.len = len.value;
-    next
-}
-
-fn opened(answer: Opened) -> Reader {
+fn opened(answer: Result<Reader, Refusal>) -> Reader {
     match answer {
-        Opened::Open(reader) => reader,
-        Opened::Refused(number) => {
-            refused(number);
+        Ok(reader) => reader,
+        Err(refusal) => {
+            refused(u8::from(refusal));
             block::no_reader()
         }
     }
 }
 
-// With another reader: shows the rows that it has left, and goes on with what came back.
-fn moved(from: Reading, at: usize, reader: Reader) -> Reading {
-    let answer = reader.remaining();
-    refused(answer.number);
-    say(b" left");
-    show_size(answer.rows);
-    let same = answer.reader;
-    let mut next = from;
-    next.at = at;
-    next.reader = same;
-    next
-}
+impl Reading<'_> {
+    pub fn give_block(&mut self, block: &mut [u8]) {
+        self.len = self.input.number();
+        put(self.input.part(self.len), block);
+        say(b"given");
+        show(self.len);
+    }
 
-fn open(s: &[u8], from: Reading, block: &[u8]) -> Reading {
-    let named = named_at(s, from.at);
-    let rows = number(s, named.next);
-    say(b"open");
-    show_named(named);
-    show_size(rows.value);
-    let answer = block::open(named.kind, named.encoding, named.width, rows.value, block);
-    moved(from, rows.next, opened(answer))
-}
+    // Goes on with another reader, and shows the rows that it has left.
+    fn go_on(&mut self, reader: Reader) {
+        let answer = reader.remaining();
+        refused(answer.number);
+        say(b" left");
+        show(answer.rows);
+        self.reader = answer.reader;
+    }
 
-fn give(
-    reader: Reader,
-    block: &[u8],
-    skip: usize,
-    size: usize,
-    values: &mut [i64],
-    flags: &mut [u8],
-    ends: &mut [u32],
-    bytes: &mut [u8],
-) -> Reader {
-    let answer = reader.read(block, skip, size, values, flags, ends, bytes);
-    refused(answer.number);
-    show_rows(reader, answer.rows, values, flags, ends, bytes);
-    answer.reader
-}
+    pub fn open(&mut self, room: &[u8]) {
+        let named = Named::taken(&mut self.input);
+        let rows = self.input.number();
+        say(b"open");
+        named.show();
+        show(rows);
+        let block = first(room, self.len);
+        let answer = block::open(named.kind, named.encoding, named.width, rows, block);
+        self.go_on(opened(answer));
+    }
 
-fn read(s: &[u8], from: Reading, block: &[u8]) -> Reading {
-    let skip = number(s, from.at);
-    let size = number(s, skip.next);
-    say(b"read");
-    let mut values = [0i64; 512];
-    let mut flags = [0u8; 512];
-    let mut ends = [0u32; 512];
-    let mut bytes = [0u8; 4096];
-    let reader = give(
-        from.reader,
-        block,
-        skip.value,
-        size.value,
-        &mut values,
-        &mut flags,
-        &mut ends,
-        &mut bytes,
-    );
-    moved(from, size.next, reader)
-}
-
-pub fn run(s: &[u8], from: Reading, command: u8, room: &mut [u8]) -> Reading {
-    match command {
-        3 => open(s, from, first(room, from.len)),
-        4 => read(s, from, first(room, from.len)),
-        _ => give_block(s, from, room),
+    pub fn read(&mut self, room: &[u8]) {
+        let skip = self.input.number();
+        let size = self.input.number();
+        say(b"read");
+        let mut values = [0i64; 512];
+        let mut flags = [0u8; 512];
+        let mut ends = [0u32; 512];
+        let mut bytes = [0u8; 4096];
+        let block = first(room, self.len);
+        let answer = self.reader.read(
+            block,
+            skip,
+            size,
+            &mut values,
+            &mut flags,
+            &mut ends,
+            &mut bytes,
+        );
+        refused(answer.number);
+        show_rows(self.reader, answer.rows, &values, &flags, &ends, &bytes);
+        self.go_on(answer.reader);
     }
 }

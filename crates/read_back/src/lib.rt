@@ -4,44 +4,46 @@
 mod calls;
 mod showing;
 
-pub use calls::run;
-use script::number;
-pub use showing::show_named;
+use block::Reader;
+use script::{Input, show_each};
 
-// What stands between two commands: the place in the input, the length of the block, its reader.
+// What stands between two commands: the input, the length of the block, its reader.
 #[derive(Clone, Copy)]
-pub struct Reading {
-    pub at: usize,
+pub struct Reading<'a> {
+    pub input: Input<'a>,
     pub len: usize,
-    pub reader: block::Reader,
+    pub reader: Reader,
 }
 
-// The numbers that name a column, and the place after them.
+// The numbers that name a column.
 #[derive(Clone, Copy)]
 pub struct Named {
     pub kind: usize,
     pub encoding: usize,
     pub width: usize,
-    pub next: usize,
 }
 
-pub fn named_at(s: &[u8], at: usize) -> Named {
-    let kind = number(s, at);
-    let encoding = number(s, kind.next);
-    let width = number(s, encoding.next);
-    Named {
-        kind: kind.value,
-        encoding: encoding.value,
-        width: width.value,
-        next: width.next,
+impl Named {
+    pub fn taken(input: &mut Input) -> Named {
+        Named {
+            kind: input.number(),
+            encoding: input.number(),
+            width: input.number(),
+        }
+    }
+
+    pub fn show(self) {
+        show_each(&[self.kind, self.encoding, self.width]);
     }
 }
 
-// At the first command there is no block, and no reader.
-pub fn start() -> Reading {
-    Reading {
-        at: 0,
-        len: 0,
-        reader: block::no_reader(),
+impl<'a> Reading<'a> {
+    // At the first command there is no block, and no reader.
+    pub fn new(bytes: &'a [u8]) -> Reading<'a> {
+        Reading {
+            input: Input::new(bytes),
+            len: 0,
+            reader: block::no_reader(),
+        }
     }
 }

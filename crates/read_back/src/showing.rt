@@ -1,73 +1,31 @@
 // Rows as they were read.
-use crate::Named;
 use block::Reader;
-use script::{byte, first, rest, say, show, show_bytes, show_size};
+use encode::Kind;
+use script::{byte, first, rest, say, show, show_bytes};
 
-pub fn show_named(named: Named) {
-    show_size(named.kind);
-    show_size(named.encoding);
-    show_size(named.width);
-}
-
-// One row that is there: an integer, or bytes.
-fn show_value(v: i64) {
-    show(encode::bits_of(v));
-}
-
-fn show_text(bytes: &[u8], from: usize, to: usize) {
-    say(b" =");
-    show_bytes(rest(first(bytes, to), from));
-}
-
+// Rows that are integers, as far as there are slots for so many.
 fn show_ints(n: usize, values: &[i64], flags: &[u8]) {
-    let mut i = 0;
-    while i < n {
-        if values.len() <= i {
-            return;
-        }
+    for (i, v) in first(values, n).iter().enumerate() {
         if byte(flags, i) == 0 {
             say(b" null");
         } else {
-            show_value(values[i]);
+            show(*v);
         }
-        i += 1;
     }
 }
 
-fn place(end: u32) -> usize {
-    end as usize
-}
-
+// Rows that are bytes: each from the end of the one before to its own.
 fn show_texts(n: usize, flags: &[u8], ends: &[u32], bytes: &[u8]) {
-    let mut from: usize = 0;
-    let mut i = 0;
-    while i < n {
-        if ends.len() <= i {
-            return;
-        }
-        let to = place(ends[i]);
+    let mut from = 0;
+    for (i, end) in first(ends, n).iter().enumerate() {
+        let to = *end as usize;
         if byte(flags, i) == 0 {
             say(b" null");
         } else {
-            show_text(bytes, from, to);
+            say(b" =");
+            show_bytes(rest(first(bytes, to), from));
         }
         from = to;
-        i += 1;
-    }
-}
-
-fn is_fixed(kind: encode::Kind) -> bool {
-    match kind {
-        encode::Kind::Fixed(_) => true,
-        _ => false,
-    }
-}
-
-// Rows of a fixed kind are integers, those of the others bytes.
-fn are_ints(found: encode::FoundKind) -> bool {
-    match found {
-        encode::FoundKind::Known(kind) => is_fixed(kind),
-        encode::FoundKind::Unknown => false,
     }
 }
 
@@ -79,9 +37,10 @@ pub fn show_rows(
     ends: &[u32],
     bytes: &[u8],
 ) {
-    show_size(n);
+    show(n);
     say(b":");
-    if are_ints(encode::kind_of(reader.kind, reader.width)) {
+    // rows of a fixed kind are integers, those of the others bytes
+    if let Some(Kind::Fixed(_)) = encode::kind_of(reader.kind, reader.width) {
         show_ints(n, values, flags);
     } else {
         show_texts(n, flags, ends, bytes);

@@ -11,6 +11,7 @@ use lib.Dec.{ltb}
 use lib.ListN.{length, take, drop, length-append, length-take, length-drop, length-map, drop_of_length-le}
 use lib.Seq.{take-nil}
 use borrow.Author.Tests.{le-ltb, ltb-false}
+use Rattle.std.specs.Prelude.{Result, Ok, Option, Some, None}
 use Rattle.limits.specs.Limits.{MOST_GIVEN}
 use Rattle.limits.specs.Refusals.{ROOM, NO_ROWS, TOO_FAR}
 use Rattle.encode.specs.declared.Kind.{Kind}
@@ -18,12 +19,9 @@ use Rattle.plain.specs.Rows.{Row}
 use Rattle.plain.specs.Plain.{joined}
 use Rattle.format.specs.declared.Encoding.{Encoding}
 use Rattle.format.specs.declared.Column.{Column}
-use Rattle.format.specs.declared.Column.TheVariants.{Of, Unknown}
-use Rattle.format.specs.Blocks.{column_of}
+use Rattle.format.specs.Blocks.{column_of, column}
 use Rattle.format.specs.Opening.{head_of, places_of, row_at, rows_of, column_number, open_number}
 use Rattle.block.specs.declared.Reader.{Reader}
-use Rattle.block.specs.declared.Opened.{Opened}
-use Rattle.block.specs.declared.Opened.TheVariants.{Open}
 use Rattle.block.specs.Reading.{Areas, is_bytes, short, head_in, reader_at, opened_by, opened, left, remaining_in, remaining, asks_nothing, read}
 use Rattle.block.specs.Calls.{Call, reading, Answer, gave, refused, answer_to, after, play, play_opened}
 use Rattle.reading_laws.specs.Calls.{due, moves, expected, handed_out, passed_over, unskipped, after_all}
@@ -170,50 +168,50 @@ module _ (k : Kind) (e : Encoding) (n : ℕ) (b : List ℕ) where
   remains r is g = rw g.column (simp (not-wrong k e r g.right) (ap (λ (m : ℕ). left 0 m r) (sym g.count)))
 
 -- ---- from the opening on
-pub open_told : (m : ℕ) (s r : Reader) → opened_by m s ≡ Open r → (m ≡ 0) × (s ≡ r)
+pub open_told : (m : ℕ) (s r : Reader) → opened_by m s ≡ Ok r → (m ≡ 0) × (s ≡ r)
 unfolding opened_by
 open_told zero s r q = (refl, cc)
 open_told (suc m) s r q = let z : ◌≡◌ {A = ℕ} 0 1 = cc in absurd (omega arith)
 
-unknown-told : (n : ℕ) (b : List ℕ) → column_number Unknown n b ≡ 0 → ⊥
+unknown-told : (n : ℕ) (b : List ℕ) → column_number None n b ≡ 0 → ⊥
 unfolding column_number
 unknown-told n b q = omega arith
 
 module _ (kind encoding width n : ℕ) (b : List ℕ) where
   -- a sound block opens
-  pub opens : (k : Kind) (e : Encoding) → open_number kind encoding width n b ≡ 0 → column_of kind encoding width ≡ Of k e
-      → opened kind encoding width n b ≡ Open (reader_at kind encoding width n (length b) (head_of e b))
+  pub opens : (k : Kind) (e : Encoding) → open_number kind encoding width n b ≡ 0 → column_of kind encoding width ≡ Some (column k e)
+      → opened kind encoding width n b ≡ Ok (reader_at kind encoding width n (length b) (head_of e b))
   unfolding opened opened_by head_in
   opens k e z c = rw (z, c)
 
-  sound : (k : Kind) (e : Encoding) → open_number kind encoding width n b ≡ 0 → column_of kind encoding width ≡ Of k e → column_number (Of k e) n b ≡ 0
+  sound : (k : Kind) (e : Encoding) → open_number kind encoding width n b ≡ 0 → column_of kind encoding width ≡ Some (column k e) → column_number (Some (column k e)) n b ≡ 0
   unfolding open_number
-  sound k e z c = ap (λ (x : Column). column_number x n b) (sym c) ∙ z
+  sound k e z c = ap (λ (x : Option Column). column_number x n b) (sym c) ∙ z
 
-  opened-by : {o : Opened} → opened kind encoding width n b ≡ o
+  opened-by : {o : Result Reader ℕ} → opened kind encoding width n b ≡ o
       → opened_by (open_number kind encoding width n b) (reader_at kind encoding width n (length b) (head_in (column_of kind encoding width) b)) ≡ o
   unfolding opened
   opened-by q = q
 
-  head-told : (k : Kind) (e : Encoding) → column_of kind encoding width ≡ Of k e
+  head-told : (k : Kind) (e : Encoding) → column_of kind encoding width ≡ Some (column k e)
       → reader_at kind encoding width n (length b) (head_of e b) ≡ reader_at kind encoding width n (length b) (head_in (column_of kind encoding width) b)
   unfolding head_in
-  head-told k e c = ap (λ (x : Column). reader_at kind encoding width n (length b) (head_in x b)) (sym c)
+  head-told k e c = ap (λ (x : Option Column). reader_at kind encoding width n (length b) (head_in x b)) (sym c)
 
   -- What any calls are answered. The rows are those of the block; the areas that a read is lent decide only whether it is refused as 4.
-  pub any-calls : (k : Kind) (e : Encoding) → open_number kind encoding width n b ≡ 0 → column_of kind encoding width ≡ Of k e
+  pub any-calls : (k : Kind) (e : Encoding) → open_number kind encoding width n b ≡ 0 → column_of kind encoding width ≡ Some (column k e)
       → (cs : List Call) → play_opened (opened kind encoding width n b) b cs ≡ expected k (rows_of k e n b) cs
   unfolding play_opened rows_of
   any-calls k e z c cs = rw (opens k e z c) (plays k e n b cs _ _ (start k n b kind encoding width e c (sound k e z c)))
 
   -- All rows that the reads gave, one after the other, are the rows of the block that none passed over, in order, up to the place reached.
-  pub rows-in-order : (k : Kind) (e : Encoding) → open_number kind encoding width n b ≡ 0 → column_of kind encoding width ≡ Of k e
+  pub rows-in-order : (k : Kind) (e : Encoding) → open_number kind encoding width n b ≡ 0 → column_of kind encoding width ≡ Some (column k e)
       → (cs : List Call)
       → handed_out (play_opened (opened kind encoding width n b) b cs) ≡ unskipped (rows_of k e n b) (play_opened (opened kind encoding width n b) b cs)
   rows-in-order k e z c cs = rw (any-calls k e z c cs) (expected-in-order k (rows_of k e n b) cs)
 
   -- ---- of the reader that calls reach
-  module _ (r : Reader) (here : opened kind encoding width n b ≡ Open r) where
+  module _ (r : Reader) (here : opened kind encoding width n b ≡ Ok r) where
     pub record Found : Type 0 where
       pub k : Kind
       pub e : Encoding
@@ -227,13 +225,18 @@ module _ (kind encoding width n : ℕ) (b : List ℕ) where
         q : (open_number kind encoding width n b ≡ 0) × (reader_at kind encoding width n (length b) (head_in (column_of kind encoding width) b) ≡ r)
         q = open_told (open_number kind encoding width n b) _ r (opened-by here)
 
-        go : (x : Column) → column_of kind encoding width ≡ x → Found
-        go Unknown c = absurd (unknown-told n b (ap (λ (x : Column). column_number x n b) (sym c) ∙ q.0))
-        go (Of k e) c =
-            let s = start k n b kind encoding width e c (sound k e q.0 c) in
-            let h = head-told k e c ∙ q.1 in
+        go : (x : Option Column) → column_of kind encoding width ≡ x → Found
+        go None c = absurd (unknown-told n b (ap (λ (x : Option Column). column_number x n b) (sym c) ∙ q.0))
+        go (Some named) c =
+            let s = start named.kind n b kind encoding width named.encoding c (sound named.kind named.encoding q.0 c) in
+            let h = head-told named.kind named.encoding c ∙ q.1 in
             let l = s.count in
-            record { k = k; e = e; stands = subst (λ (x : Reader). Stands k e n b x (places_of e n (head_of e b) b)) h s; all = omega arith }
+            record {
+              k = named.kind;
+              e = named.encoding;
+              stands = subst (λ (x : Reader). Stands named.kind named.encoding n b x (places_of named.encoding n (head_of named.encoding b) b)) h s;
+              all = omega arith;
+            }
 
     module _ (cs : List Call) where
       there : Reached found.k found.e n b r (places_of found.e n (head_of found.e b) b) cs

@@ -1,4 +1,5 @@
 -- What a read wrote, read back from its areas, is the rows that it gave. Assumes nothing.
+use Rattle.std.specs.Prelude.{Some}
 use Prim.Native.Nat.{ℕ, zero, suc, ◌+◌, ◌-◌, ◌<◌}
 use native.Mathlib.Nat.{zero-add}
 use native.Mathlib.Omega.{arith}
@@ -21,11 +22,11 @@ use Rattle.dict.specs.Dictionary.{entry_row, slot_at, key_part, entries_part}
 use Rattle.rle.specs.RunLength.{inner_part}
 use Rattle.format.specs.declared.Encoding.{Encoding}
 use Rattle.format.specs.declared.Encoding.TheVariants.{Plain, Nullable, RunLength, RunLengthNullable, Dictionary}
-use Rattle.format.specs.declared.Column.TheVariants.{Of}
 use Rattle.format.specs.declared.Head.{Head}
 use Rattle.format.specs.Opening.{row_at}
 use Rattle.block.specs.Reading.{is_bytes, Areas, filled_in}
 use Rattle.block.specs.Calls.{start_in, handed_row, handed}
+use Rattle.format.specs.Blocks.{column}
 
 -- ---- what was laid over the front of an area
 over-front : {A : Type 0} (vs d : List A) (i : ℕ) (z : A) → i < length vs → get_or (over d 0 vs) i z ≡ get_or vs i z
@@ -111,7 +112,7 @@ null-handed : (k : Kind) → as_handed k null ≡ null
 unfolding as_handed presence
 null-handed k = refl
 
-pub read_back : (k : Kind) (e : Encoding) (rs : List Row) (a : Areas) → handed (Of k e) (length rs) (filled_in k rs a) ≡ map (as_handed k) rs
+pub read_back : (k : Kind) (e : Encoding) (rs : List Row) (a : Areas) → handed (Some (column k e)) (length rs) (filled_in k rs a) ≡ map (as_handed k) rs
 unfolding handed
 read_back k e rs a =
     let f = handed_row k (filled_in k rs a) in

@@ -1,5 +1,6 @@
 -- A read in two, on every record and every block: where one call passes over the rows and the next gives those behind them, one call for both comes to the
 -- same; only that it has moved nothing where the second is refused. Assumes nothing.
+use Rattle.std.specs.Prelude.{Option, Some, None}
 use Prim.Native.Nat.{ℕ, ◌-◌, min}
 use native.Mathlib.Nat.{add-zero, min-le_left}
 use native.Mathlib.Omega.{arith}
@@ -19,8 +20,7 @@ use Rattle.rle.specs.declared.Spot.{Spot}
 use Rattle.format.specs.declared.Encoding.{Encoding}
 use Rattle.format.specs.declared.Encoding.TheVariants.{Plain, Nullable, RunLength, RunLengthNullable, Dictionary}
 use Rattle.format.specs.declared.Column.{Column}
-use Rattle.format.specs.declared.Column.TheVariants.{Of, Unknown}
-use Rattle.format.specs.Blocks.{column_of}
+use Rattle.format.specs.Blocks.{column_of, column}
 use Rattle.block.specs.declared.Reader.{Reader}
 use Rattle.block.specs.Reading.{wrong, next_steps, moved, counted, nulls_in}
 use Rattle.block.specs.Reading.{Areas, Batch, filled_in, given_bytes, refused_batch, give, batch_of, up_to, whole, pass_then, read_in, asks_nothing, read}
@@ -84,7 +84,7 @@ module _ (r : Reader) (b : List ℕ) (skip : ℕ) where
     is : List ℕ
     t : Spot
     some : asks_nothing skip 0 ≡ false
-    column : column_of r.kind r.encoding r.width ≡ Of k e
+    column : column_of r.kind r.encoding r.width ≡ Some (column k e)
     tests : (not (eqb (length b) r.len) || wrong k e r) ≡ false
     within : ltb (r.rows - r.place) skip ≡ false
     steps : next_steps e r b skip ≡ rows is t
@@ -97,7 +97,7 @@ module _ (r : Reader) (b : List ℕ) (skip : ℕ) where
     abbrev not-nothing : (size : ℕ) → asks_nothing skip size ≡ false
     not-nothing size = asks-something (eqb skip 0) (eqb size 0) some
 
-    module _ {k : Kind} {e : Encoding} (column : column_of r.kind r.encoding r.width ≡ Of k e) where
+    module _ {k : Kind} {e : Encoding} (column : column_of r.kind r.encoding r.width ≡ Some (column k e)) where
       module _ (tests : (not (eqb (length b) r.len) || wrong k e r) ≡ false) (within : ltb (r.rows - r.place) skip ≡ false) where
         by-steps : (w : Steps) → next_steps e r b skip ≡ w → Either (pass_then k e r b skip 0 a₀ w)
         unfolding read read_in pass_then whole
@@ -114,10 +114,10 @@ module _ (r : Reader) (b : List ℕ) (skip : ℕ) where
       by_tests false true h w = (λ z. absurd (omega (arith, z)), λ z size a. rw (not-nothing size, column, h, w))
       by_tests false false h w = by-steps h w (next_steps e r b skip) refl
 
-    by-column : (x : Column) → column_of r.kind r.encoding r.width ≡ x → Either (read_in x r b skip 0 a₀)
+    by-column : (x : Option Column) → column_of r.kind r.encoding r.width ≡ x → Either (read_in x r b skip 0 a₀)
     unfolding read read_in
-    by-column Unknown q = (λ z. absurd (omega (arith, z)), λ z size a. rw (not-nothing size, q))
-    by-column (Of k e) q = by_tests q (not (eqb (length b) r.len) || wrong k e r) (ltb (r.rows - r.place) skip) refl refl
+    by-column None q = (λ z. absurd (omega (arith, z)), λ z size a. rw (not-nothing size, q))
+    by-column (Some c) q = by_tests q (not (eqb (length b) r.len) || wrong c.kind c.encoding r) (ltb (r.rows - r.place) skip) refl refl
 
   either : (a₀ : Areas) → asks_nothing skip 0 ≡ false → Either (read r b skip 0 a₀)
   unfolding read

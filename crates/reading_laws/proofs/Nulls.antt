@@ -10,6 +10,7 @@ use mathlib.Core.Path.{◌≡◌, refl, sym, ap, subst, ◌∙◌}
 use lib.Dec.{ltb, eqb}
 use lib.ListN.{length, take}
 use borrow.Author.Tests.{eqb-false}
+use Rattle.std.specs.Prelude.{Result, Ok, Option, Some, None}
 use Rattle.limits.specs.Refusals.{ROOM, NO_ROWS, TOO_FAR, DISAGREE}
 use Rattle.encode.specs.declared.Kind.{Kind}
 use Rattle.encode.specs.declared.Kind.TheVariants.{Fixed, Char, Blob}
@@ -25,13 +26,10 @@ use Rattle.rle.specs.Stepping.{Steps, stuck, rows}
 use Rattle.format.specs.declared.Encoding.{Encoding}
 use Rattle.format.specs.declared.Encoding.TheVariants.{Plain, RunLength}
 use Rattle.format.specs.declared.Column.{Column}
-use Rattle.format.specs.declared.Column.TheVariants.{Of, Unknown}
-use Rattle.format.specs.Blocks.{column_of}
+use Rattle.format.specs.Blocks.{column_of, column}
 use Rattle.format.specs.Opening.{head_of, places_of, row_at, rows_of, open_number}
 use Rattle.anatomy.specs.Tests.{row_good}
 use Rattle.block.specs.declared.Reader.{Reader}
-use Rattle.block.specs.declared.Opened.{Opened}
-use Rattle.block.specs.declared.Opened.TheVariants.{Open}
 use Rattle.block.specs.Reading.{wrong, next_steps, moved, counted, nulls_in, reader_at, head_in, opened}
 use Rattle.block.specs.Reading.{Areas, Batch, is_bytes, short, filled_in, given_bytes, refused_batch, give, batch_of, up_to, whole, pass_then, read_in, asks_nothing, read}
 use Rattle.block.specs.Calls.{Call, reading, Answer, gave, refused, handed, column_in, read_answer, answer_to, after, play, play_opened}
@@ -72,23 +70,23 @@ given-nulls skip rs as' = nulls-append rs (handed_out as')
 abbrev got_zeros : Batch → ℕ
 got_zeros x = zeros_in (take x.answer.rows x.areas.flags)
 
-record Counts (c : Column) (nulls : ℕ) (x : Batch) : Type 0 where
+record Counts (c : Option Column) (nulls : ℕ) (x : Batch) : Type 0 where
   adds : x.answer.reader.nulls ≡ nulls + got_zeros x
   hands : nulls_in (handed c x.answer.rows x.areas) ≡ got_zeros x
 
-refused-counts : (c : Column) (e : ℕ) (r : Reader) (a : Areas) → Counts c r.nulls (refused_batch e r a)
+refused-counts : (c : Option Column) (e : ℕ) (r : Reader) (a : Areas) → Counts c r.nulls (refused_batch e r a)
 unfolding zeros_in nulls_in handed places
-refused-counts Unknown e r a = record { adds = sym (add-zero r.nulls); hands = refl }
-refused-counts (Of k f) e r a = record { adds = sym (add-zero r.nulls); hands = refl }
+refused-counts None e r a = record { adds = sym (add-zero r.nulls); hands = refl }
+refused-counts (Some c) e r a = record { adds = sym (add-zero r.nulls); hands = refl }
 
-module _ (c : Column) (n : ℕ) where
+module _ (c : Option Column) (n : ℕ) where
   either-counts : (t : Bool) (x y : Batch) → Counts c n x → Counts c n y → Counts c n (cond t x y)
   either-counts true x y p q = p
   either-counts false x y p q = q
 
 module _ (k : Kind) (e : Encoding) (r : Reader) (b : List ℕ) (a : Areas) where
   given-counts : (rs : List Row) (t : Spot)
-      → Counts (Of k e) r.nulls (record {
+      → Counts (Some (column k e)) r.nulls (record {
         answer = record { number = 0; rows = length rs; bytes = given_bytes k rs; reader = counted (moved r (length rs) t) (nulls_in rs) };
         areas = filled_in k rs a;
       })
@@ -98,35 +96,36 @@ module _ (k : Kind) (e : Encoding) (r : Reader) (b : List ℕ) (a : Areas) where
     hands = ap nulls_in (read_back k e rs a) ∙ kept-nulls k rs ∙ ap zeros_in (sym (flags-back k rs a));
   }
 
-  give-counts : (rs : List Row) (t : Spot) → Counts (Of k e) r.nulls (give k r rs t a)
+  give-counts : (rs : List Row) (t : Spot) → Counts (Some (column k e)) r.nulls (give k r rs t a)
   unfolding give
-  give-counts rs t = either-counts (Of k e) r.nulls (short k rs a) _ _ (refused-counts (Of k e) ROOM r a) (given-counts rs t)
+  give-counts rs t = either-counts (Some (column k e)) r.nulls (short k rs a) _ _ (refused-counts (Some (column k e)) ROOM r a) (given-counts rs t)
 
-  rows-count : (w : Steps) → Counts (Of k e) r.nulls (batch_of k e r b a w)
+  rows-count : (w : Steps) → Counts (Some (column k e)) r.nulls (batch_of k e r b a w)
   unfolding batch_of
-  rows-count stuck = refused-counts (Of k e) DISAGREE r a
+  rows-count stuck = refused-counts (Some (column k e)) DISAGREE r a
   rows-count (rows is t) =
-      either-counts (Of k e) r.nulls (all_of (row_good k e r.rows r.head b) is) _ _ (give-counts (map (row_at k e r.rows r.head b) is) t)
-      (refused-counts (Of k e) DISAGREE r a)
+      either-counts (Some (column k e)) r.nulls (all_of (row_good k e r.rows r.head b) is) _ _ (give-counts (map (row_at k e r.rows r.head b) is) t)
+      (refused-counts (Some (column k e)) DISAGREE r a)
 
-  up-to-counts : (size : ℕ) → Counts (Of k e) r.nulls (up_to k e r b size a)
+  up-to-counts : (size : ℕ) → Counts (Some (column k e)) r.nulls (up_to k e r b size a)
   unfolding up_to
   up-to-counts size = rows-count (next_steps e r b (min size (r.rows - r.place)))
 
 module _ (r : Reader) (b : List ℕ) (skip size : ℕ) (a : Areas) where
-  passed-counts : (k : Kind) (e : Encoding) (w : Steps) → Counts (Of k e) r.nulls (pass_then k e r b skip size a w)
+  passed-counts : (k : Kind) (e : Encoding) (w : Steps) → Counts (Some (column k e)) r.nulls (pass_then k e r b skip size a w)
   unfolding pass_then whole
-  passed-counts k e stuck = refused-counts (Of k e) DISAGREE r a
+  passed-counts k e stuck = refused-counts (Some (column k e)) DISAGREE r a
   passed-counts k e (rows is t) =
       let x = up_to k e (moved r skip t) b size a in
-      either-counts (Of k e) r.nulls (eqb x.answer.number 0) x _ (up-to-counts k e (moved r skip t) b a size) (refused-counts (Of k e) x.answer.number r a)
+      either-counts (Some (column k e)) r.nulls (eqb x.answer.number 0) x _ (up-to-counts k e (moved r skip t) b a size) (refused-counts (Some (column k e)) x.answer.number r a)
 
-  column-counts : (c : Column) → Counts c r.nulls (read_in c r b skip size a)
+  column-counts : (c : Option Column) → Counts c r.nulls (read_in c r b skip size a)
   unfolding read_in
-  column-counts Unknown = refused-counts Unknown DISAGREE r a
-  column-counts (Of k e) =
-      either-counts (Of k e) r.nulls (not (eqb (length b) r.len) || wrong k e r) _ _ (refused-counts (Of k e) DISAGREE r a)
-      (either-counts (Of k e) r.nulls (ltb (r.rows - r.place) skip) _ _ (refused-counts (Of k e) TOO_FAR r a) (passed-counts k e (next_steps e r b skip)))
+  column-counts None = refused-counts None DISAGREE r a
+  column-counts (Some c) =
+      either-counts (Some c) r.nulls (not (eqb (length b) r.len) || wrong c.kind c.encoding r) _ _ (refused-counts (Some c) DISAGREE r a)
+      (either-counts (Some c) r.nulls (ltb (r.rows - r.place) skip) _ _ (refused-counts (Some c) TOO_FAR r a)
+      (passed-counts c.kind c.encoding (next_steps c.encoding r b skip)))
 
   read-counts : Counts (column_in r) r.nulls (read r b skip size a)
   unfolding read
@@ -216,7 +215,7 @@ module _ (k : Kind) (n : ℕ) (b : List ℕ) where
       (λ (q : e ≡ RunLength). subst (λ (f : Encoding). Each Present (rows_of k f n b)) (sym q) runs-present)
       h
 
-module _ (kind encoding width n : ℕ) (b : List ℕ) (r : Reader) (here : opened kind encoding width n b ≡ Open r) where
+module _ (kind encoding width n : ℕ) (b : List ℕ) (r : Reader) (here : opened kind encoding width n b ≡ Ok r) where
   begun : (open_number kind encoding width n b ≡ 0) × (reader_at kind encoding width n (length b) (head_in (column_of kind encoding width) b) ≡ r)
   unfolding opened
   begun = open_told (open_number kind encoding width n b) _ r here
@@ -235,9 +234,9 @@ module _ (kind encoding width n : ℕ) (b : List ℕ) (r : Reader) (here : opene
         (omega arith, h)
 
     -- In encodings 0 and 2 it stays 0.
-    pub no-nulls-in-0-and-2 : (k : Kind) (e : Encoding) → (e ≡ Plain) ⊎ (e ≡ RunLength) → column_of kind encoding width ≡ Of k e → (after_all r b cs).nulls ≡ 0
+    pub no-nulls-in-0-and-2 : (k : Kind) (e : Encoding) → (e ≡ Plain) ⊎ (e ≡ RunLength) → column_of kind encoding width ≡ Some (column k e) → (after_all r b cs).nulls ≡ 0
     unfolding play_opened
     no-nulls-in-0-and-2 k e bare c =
         nulls-so-far.0
-        ∙ ap (λ (xs : List Answer). nulls_in (handed_out xs)) (sym (ap (λ (o : Opened). play_opened o b cs) here) ∙ any-calls kind encoding width n b k e begun.0 c cs)
+        ∙ ap (λ (xs : List Answer). nulls_in (handed_out xs)) (sym (ap (λ (o : Result Reader ℕ). play_opened o b cs) here) ∙ any-calls kind encoding width n b k e begun.0 c cs)
         ∙ none-null (handed_out (expected k (rows_of k e n b) cs)) (each-handed Present k (rows_of k e n b) cs (rows-present k n b e bare))

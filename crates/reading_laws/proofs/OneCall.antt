@@ -1,4 +1,5 @@
 -- One call on a reader that stands well: it is answered as the rows left ask for, and the reader after it stands well. Assumes nothing.
+use Rattle.std.specs.Prelude.{Some}
 use Prim.Native.Nat.{ℕ, zero, suc, ◌-◌, ◌≤◌, ◌<◌, min}
 use native.Mathlib.Nat.{min-le_right, min-eq_left, min-eq_right}
 use native.Mathlib.Omega.{arith}
@@ -17,7 +18,6 @@ use Rattle.plain.specs.Rows.{Row}
 use Rattle.nullable.specs.Nullable.{presence}
 use Rattle.rle.specs.Stepping.{rows}
 use Rattle.format.specs.declared.Encoding.{Encoding}
-use Rattle.format.specs.declared.Column.TheVariants.{Of}
 use Rattle.format.specs.Opening.{head_of, row_at}
 use Rattle.anatomy.specs.Tests.{row_good}
 use Rattle.block.specs.declared.Reader.{Reader}
@@ -27,6 +27,7 @@ use Rattle.block.specs.Calls.{Call, reading, Answer, gave, refused, handed, read
 use Rattle.reading_laws.specs.Calls.{due, moves}
 use Rattle.reading_laws.proofs.HandedRows.{read_back, rows-handed}
 use Rattle.reading_laws.proofs.RowsLeft.{Stands, Later, later, counted-stands, not-wrong, take-good}
+use Rattle.format.specs.Blocks.{column}
 
 -- ---- lists
 module _ {A B : Type 0} (f : A → B) where
@@ -175,7 +176,7 @@ module _ {k : Kind} {e : Encoding} {n : ℕ} {b : List ℕ} {r : Reader} {is : L
   unfolding answer_to after read_answer moves give whole
   told-given s =
       let p : read r b skip size a ≡ done = read-gives ∙ simp s in
-      let q : handed (Of k e) (length handed_out) (filled_in k handed_out a) ≡ handed_out =
+      let q : handed (Some (column k e)) (length handed_out) (filled_in k handed_out a) ≡ handed_out =
       read_back k e handed_out a ∙ rows-handed k n (head_of e b) b e (take (min size (length (drop skip is))) (drop skip is)) in
       told-done g (reading skip size a) (gave skip handed_out) done.answer.reader
       (rw (p, g.column) (ap (gave skip) q))

@@ -1,4 +1,5 @@
 -- Accepted rows, built to a block and read by any calls, come back in their stored form, for every pair. Assumes nothing.
+use Rattle.std.specs.Prelude.{Some}
 use Prim.Native.Nat.{ℕ}
 use mathlib.Core.Bool.{true}
 use mathlib.Core.List.{List}
@@ -7,8 +8,7 @@ use lib.ListN.{length}
 use Rattle.encode.specs.declared.Kind.{Kind}
 use Rattle.plain.specs.Rows.{Row}
 use Rattle.format.specs.declared.Encoding.{Encoding}
-use Rattle.format.specs.declared.Column.TheVariants.{Of}
-use Rattle.format.specs.Blocks.{column_of, block_of, stored_form}
+use Rattle.format.specs.Blocks.{column_of, block_of, stored_form, column}
 use Rattle.format.specs.Sizes.{accepted}
 use Rattle.block.specs.Reading.{opened}
 use Rattle.block.specs.Calls.{Call, play_opened}
@@ -18,7 +18,7 @@ use Rattle.reading_laws.proofs.Calls.{any-calls}
 
 -- The block opens, and every call is answered as the rows in their stored form ask for.
 pub our-blocks-read-back :
-    (kind encoding width : ℕ) (k : Kind) (e : Encoding) → column_of kind encoding width ≡ Of k e
+    (kind encoding width : ℕ) (k : Kind) (e : Encoding) → column_of kind encoding width ≡ Some (column k e)
     → (rows : List Row) → accepted k e rows ≡ true → (cs : List Call)
     → play_opened (opened kind encoding width (length rows) (block_of k e rows)) (block_of k e rows) cs ≡ expected k (stored_form k e rows) cs
 our-blocks-read-back kind encoding width k e c rows a cs =

@@ -1,5 +1,6 @@
 -- A read that is refused gives back the reader that it was given, and writes nothing; asking what remains gives it back, refused or not: on every record
 -- and every block. Assumes nothing.
+use Rattle.std.specs.Prelude.{Option, Some, None}
 use Prim.Native.Nat.{ℕ, ◌-◌}
 use mathlib.Core.Bool.{Bool, true, false, cond, not, ◌||◌}
 use mathlib.Core.List.{List}
@@ -12,7 +13,6 @@ use Rattle.encode.specs.declared.Kind.{Kind}
 use Rattle.rle.specs.Stepping.{Steps, stuck, rows}
 use Rattle.format.specs.declared.Encoding.{Encoding}
 use Rattle.format.specs.declared.Column.{Column}
-use Rattle.format.specs.declared.Column.TheVariants.{Of, Unknown}
 use Rattle.format.specs.Blocks.{column_of}
 use Rattle.block.specs.declared.Reader.{Reader}
 use Rattle.block.specs.Reading.{wrong, next_steps, moved, left, remaining_in, remaining}
@@ -20,10 +20,10 @@ use Rattle.block.specs.Reading.{Areas, Batch, refused_batch, up_to, whole, pass_
 
 -- ---- remaining
 module _ (r : Reader) where
-  remaining-by : (x : Column) → (remaining_in x r).reader ≡ r
+  remaining-by : (x : Option Column) → (remaining_in x r).reader ≡ r
   unfolding remaining_in
-  remaining-by Unknown = refl
-  remaining-by (Of k e) = go (wrong k e r)
+  remaining-by None = refl
+  remaining-by (Some c) = go (wrong c.kind c.encoding r)
     where
       go : (b : Bool) → (cond b (left DISAGREE 0 r) (left 0 (r.rows - r.place) r)).reader ≡ r
       go true = refl
@@ -51,21 +51,21 @@ module _ (r : Reader) (b : List ℕ) (skip size : ℕ) (a : Areas) where
   rows-kept k e stuck = λ h. refl
   rows-kept k e (rows is t) = whole-kept (up_to k e (moved r skip t) b size a)
 
-  column-kept : (x : Column) → Kept (read_in x r b skip size a)
+  column-kept : (x : Option Column) → Kept (read_in x r b skip size a)
   unfolding read_in
-  column-kept Unknown = λ h. refl
-  column-kept (Of k e) = go (not (eqb (length b) r.len) || wrong k e r) (ltb (r.rows - r.place) skip)
+  column-kept None = λ h. refl
+  column-kept (Some c) = go (not (eqb (length b) r.len) || wrong c.kind c.encoding r) (ltb (r.rows - r.place) skip)
     where
-      go : (s t : Bool) → Kept (cond s (refused_batch DISAGREE r a) (cond t (refused_batch TOO_FAR r a) (pass_then k e r b skip size a (next_steps e r b skip))))
+      go : (s t : Bool) → Kept (cond s (refused_batch DISAGREE r a) (cond t (refused_batch TOO_FAR r a) (pass_then c.kind c.encoding r b skip size a (next_steps c.encoding r b skip))))
       go true t h = refl
       go false true h = refl
-      go false false h = rows-kept k e (next_steps e r b skip) h
+      go false false h = rows-kept c.kind c.encoding (next_steps c.encoding r b skip) h
 
   pub refused-read : ((read r b skip size a).answer.number ≡ 0 → ⊥) → read r b skip size a ≡ refused_batch (read r b skip size a).answer.number r a
   unfolding read
   refused-read = go (asks_nothing skip size)
     where
-      x : Column
+      x : Option Column
       x = column_of r.kind r.encoding r.width
 
       go : (s : Bool) → Kept (cond s (refused_batch NO_ROWS r a) (read_in x r b skip size a))

@@ -1,4 +1,5 @@
 -- A reader that opening gave, or that calls reached from there: which rows are left, and that nothing refuses them as 9. Assumes nothing.
+use Rattle.std.specs.Prelude.{Some, Ok}
 use Prim.Native.Nat.{ℕ, zero, suc, ◌+◌, ◌-◌, ◌*◌, ◌≤◌, ◌<◌}
 use native.Mathlib.Nat.{zero-add}
 use native.Mathlib.Omega.{arith}
@@ -17,7 +18,6 @@ use Rattle.plain.proofs.Places.{length-places, places-add}
 use Rattle.nullable.specs.Nullable.{bitmap_length, plain_part, nullable_number}
 use Rattle.nullable.proofs.Parts as NullableParts
 use Rattle.rle.specs.declared.Spot.{Spot}
-use Rattle.rle.specs.declared.Walked.TheVariants.{Total}
 use Rattle.rle.specs.RunLength.{inner_part, walked, run_numbers, counts_part}
 use Rattle.rle.specs.Stepping.{spot, rows, steps_from}
 use Rattle.rle.proofs.Steps.{Below, Parts, steps-parts, steps-length, steps-below}
@@ -27,8 +27,7 @@ use Rattle.dict.proofs.Slots.{known_at}
 use Rattle.format.specs.declared.Head.{Head}
 use Rattle.format.specs.declared.Encoding.{Encoding}
 use Rattle.format.specs.declared.Encoding.TheVariants.{Plain, Nullable, RunLength, RunLengthNullable, Dictionary}
-use Rattle.format.specs.declared.Column.TheVariants.{Of}
-use Rattle.format.specs.Blocks.{column_of}
+use Rattle.format.specs.Blocks.{column_of, column}
 use Rattle.format.specs.Opening.{head_of, counts_in, places_of, most_rows, column_number}
 use Rattle.format.proofs.Sound.{Within, NoRuns, SomeRuns, SoundRuns, column-sound}
 use Rattle.format.proofs.Sound.{plain-sound, nullable-sound, run-length-sound, run-length-nullable-sound, keys-sound}
@@ -73,7 +72,7 @@ places-parts n m i h =
 
 -- ---- a reader that stands well, with the rows at the places `is` left
 pub record Stands (k : Kind) (e : Encoding) (n : ℕ) (b : List ℕ) (r : Reader) (is : List ℕ) : Type 0 where
-  pub column : column_in r ≡ Of k e
+  pub column : column_in r ≡ Some (column k e)
   pub size : r.rows ≡ n
   pub head : r.head ≡ head_of e b
   pub long : length b ≡ r.len
@@ -245,7 +244,7 @@ module _
         never false = refl
 
 -- the rows in their runs
-module _ (runs n : ℕ) (counts : List ℕ) (q : walked runs counts ≡ Total n) where
+module _ (runs n : ℕ) (counts : List ℕ) (q : walked runs counts ≡ Ok n) where
   run-rows : (t : Spot) × (steps_from runs counts n (spot 0 0 0) ≡ rows (run_numbers runs 0 counts) t)
   run-rows = whole-steps runs counts n q
 
@@ -360,7 +359,7 @@ module _ (k : Kind) (n : ℕ) (b : List ℕ) (kind encoding width : ℕ) where
             (run_numbers r.head.runs 0 counts) (run-below r.head.runs n counts s.sum);
       }
 
-  pub start : (e : Encoding) → column_of kind encoding width ≡ Of k e → column_number (Of k e) n b ≡ 0
+  pub start : (e : Encoding) → column_of kind encoding width ≡ Some (column k e) → column_number (Some (column k e)) n b ≡ 0
       → Stands k e n b (reader_at kind encoding width n (length b) (head_of e b)) (places_of e n (head_of e b) b)
   start e c q =
       let w = column-sound k e n b q in

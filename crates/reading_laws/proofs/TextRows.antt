@@ -1,5 +1,6 @@
 -- What a sound block of char or string hands out is text: each of its rows is null or text, and so is each row that any calls hand out.
 -- Assumes nothing.
+use Rattle.std.specs.Prelude.{Option, Some}
 use Prim.Native.Nat.{ℕ, zero, suc, ◌≤◌, ◌<◌}
 use native.Mathlib.Nat.{zero-add}
 use native.Mathlib.Omega.{arith}
@@ -28,8 +29,7 @@ use Rattle.dict.proofs.Slots.{known_at}
 use Rattle.format.specs.declared.Encoding.{Encoding}
 use Rattle.format.specs.declared.Encoding.TheVariants.{Plain, Nullable, RunLength, RunLengthNullable, Dictionary}
 use Rattle.format.specs.declared.Column.{Column}
-use Rattle.format.specs.declared.Column.TheVariants.{Of}
-use Rattle.format.specs.Blocks.{column_of}
+use Rattle.format.specs.Blocks.{column_of, column}
 use Rattle.format.specs.Opening.{head_of, row_at, counts_in, places_of, rows_of, column_number, open_number}
 use Rattle.format.proofs.Sound.{Within, column-sound, plain-sound, nullable-sound, run-length-sound, run-length-nullable-sound, keys-sound}
 use Rattle.block.specs.Reading.{opened}
@@ -129,10 +129,10 @@ module _ (k : Kind) (h : holds_text k ≡ true) (n : ℕ) (b : List ℕ) where
 
 -- ---- a sound block of char or string
 module _ (kind encoding width n : ℕ) (b : List ℕ) (k : Kind) (e : Encoding) (sound : open_number kind encoding width n b ≡ 0)
-    (pair : column_of kind encoding width ≡ Of k e) (text : holds_text k ≡ true) where
+    (pair : column_of kind encoding width ≡ Some (column k e)) (text : holds_text k ≡ true) where
   pub text-comes-back : Each NullOrText (rows_of k e n b)
   unfolding open_number
-  text-comes-back = within_text k text n b e (column-sound k e n b (ap (λ (x : Column). column_number x n b) (sym pair) ∙ sound))
+  text-comes-back = within_text k text n b e (column-sound k e n b (ap (λ (x : Option Column). column_number x n b) (sym pair) ∙ sound))
 
   -- any calls, refused ones among them
   pub text-handed-out : (cs : List Call) → Each NullOrText (handed_out (play_opened (opened kind encoding width n b) b cs))

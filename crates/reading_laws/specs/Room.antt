@@ -1,5 +1,5 @@
 -- Calls that differ in what the lent areas hold and in nothing else, and what it means that two reads come to the same. Assumes nothing.
-use Rattle.std.specs.Prelude.{ℕ, ◌≤◌, List, [], ◌∷◌, ◌≡◌, ℤ, length}
+use Rattle.std.specs.Prelude.{ℕ, ◌≤◌, List, [], ◌∷◌, ◌≡◌, ℤ, length, Option}
 use Rattle.area.specs.Area.{over}
 use Rattle.format.specs.declared.Column.{Column}
 use Rattle.block.specs.Reading.{Areas, areas, Batch}
@@ -14,7 +14,7 @@ pub record SameRoom (a a' : Areas) : Type 0 where
 
 -- Two reads that answer the same and write the same: the same values, flags, ends and bytes from the start of the areas on, no more of them than
 -- the answer tells, and nothing else. So the rows that are read from the areas are the same.
-pub record SameBatch (c : Column) (a a' : Areas) (x x' : Batch) : Type 0 where
+pub record SameBatch (c : Option Column) (a a' : Areas) (x x' : Batch) : Type 0 where
   pub answer : x.answer ≡ x'.answer
   pub values : List ℤ
   pub flags : List ℕ

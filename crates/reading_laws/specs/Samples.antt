@@ -1,7 +1,6 @@
 -- 01, "Block samples" A to J: one list, and what it means that the definitions give a sample. Assumes nothing.
-use Rattle.std.specs.Prelude.{ℕ, ◌≡◌, List, [], ◌∷◌, pos, negsuc, length, replicate}
-use Rattle.varint.specs.declared.Count.TheVariants.{Number, Bad}
-use Rattle.varint.specs.Varint.{count_of, spelling}
+use Rattle.std.specs.Prelude.{ℕ, ◌≡◌, List, [], ◌∷◌, pos, negsuc, length, replicate, Some, None}
+use Rattle.varint.specs.Varint.{count_of, spelling, counted}
 use Rattle.encode.specs.declared.Primitive.TheVariants.{I16, I32, Date, Interval}
 use Rattle.encode.specs.declared.Kind.{Kind}
 use Rattle.encode.specs.Kinds.{blob}
@@ -9,8 +8,7 @@ use Rattle.encode.specs.declared.Kind.TheVariants.{Fixed, Char}
 use Rattle.plain.specs.Rows.{Row, null, int, bytes, interval}
 use Rattle.format.specs.declared.Encoding.{Encoding}
 use Rattle.format.specs.declared.Encoding.TheVariants.{Plain, Nullable, RunLength, RunLengthNullable, Dictionary}
-use Rattle.format.specs.declared.Column.TheVariants.{Of}
-use Rattle.format.specs.Blocks.{column_of, block_of, stored_form}
+use Rattle.format.specs.Blocks.{column_of, block_of, stored_form, column}
 use Rattle.format.specs.Opening.{open_number, rows_of}
 use Rattle.format.specs.Sizes.{estimate_of}
 use Rattle.block.specs.Reading.{Areas, opened}
@@ -53,15 +51,15 @@ pub data Sample : Type 0 where
 -- the definitions give it
 abbrev pub Gives : Sample → Type 0
 Gives (builds p rows b) =
-    (column_of p.kind_number p.encoding_number p.width ≡ Of p.kind p.encoding)
+    (column_of p.kind_number p.encoding_number p.width ≡ Some (column p.kind p.encoding))
     × (block_of p.kind p.encoding rows ≡ b)
     × (open_number p.kind_number p.encoding_number p.width (length rows) b ≡ 0)
     × (rows_of p.kind p.encoding (length rows) b ≡ stored_form p.kind p.encoding rows)
 Gives (measures p rows estimate len) = (estimate_of p.kind p.encoding rows ≡ estimate) × (length (block_of p.kind p.encoding rows) ≡ len)
 Gives (holds p b rows) =
     (open_number p.kind_number p.encoding_number p.width (length rows) b ≡ 0) × (rows_of p.kind p.encoding (length rows) b ≡ rows)
-Gives (spells v bs) = (spelling v ≡ bs) × (count_of bs ≡ Number v (length bs))
-Gives (spells_none bs) = count_of bs ≡ Bad
+Gives (spells v bs) = (spelling v ≡ bs) × (count_of bs ≡ counted v (length bs))
+Gives (spells_none bs) = count_of bs ≡ None
 Gives (opens p n b number) = open_number p.kind_number p.encoding_number p.width n b ≡ number
 Gives (reads p n b calls answers) = play_opened (opened p.kind_number p.encoding_number p.width n b) b calls ≡ answers
 

@@ -1,4 +1,5 @@
 -- What lies ahead of a walk over the runs of keys: its next run, and some rows taken of a run. Assumes nothing.
+use Rattle.std.specs.Prelude.{Option, Some, None}
 use Prim.Native.Nat.{ℕ, zero, suc, ◌+◌, ◌-◌, ◌*◌, ◌≤◌, ◌<◌}
 use native.Mathlib.Omega.{arith}
 use mathlib.Core.Bool.{true}
@@ -10,9 +11,8 @@ use Rattle.limits.specs.Limits.{MOST_ITEMS}
 use Rattle.plain.specs.Plain.{least_bytes, ends_good}
 use Rattle.rle.specs.declared.Spot.{Spot}
 use Rattle.rle.specs.declared.Piece.{Piece}
-use Rattle.rle.specs.declared.Piece.TheVariants.{Rows, Stuck}
 use Rattle.rle.specs.Stepping.{Steps, stuck, rows, before, steps_from}
-use Rattle.rle.specs.Pieces.{piece_in, steps_in, step_runs, Fine}
+use Rattle.rle.specs.Pieces.{piece_in, steps_in, step_runs, Fine, run_piece}
 use Rattle.rle.proofs.Steps.{coded-room}
 use Rattle.rle.proofs.Pieces.{piece-stuck, piece-rows, piece-most, piece-less, piece_inside}
 use Rattle.dict.specs.Dictionary.{entry_good}
@@ -51,7 +51,7 @@ all-ahead runs counts n = let e : n - 0 ≡ n = omega arith in rw e
 
 -- what `shown_run` says of the run that it gives
 abbrev pub Told : Source → List ℕ → List ℕ → Spot → ℕ → ShownRun → Type 0
-Told s counts marks at left y = (piece_of s counts at left ≡ Rows y.rows y.next) × (0 < y.rows → y.slot ≡ shown_by s.marks marks at.run)
+Told s counts marks at left y = (piece_of s counts at left ≡ Some (run_piece y.rows y.next)) × (0 < y.rows → y.slot ≡ shown_by s.marks marks at.run)
 
 keys-ready : {runs : ℕ} {keys : List ℕ} → Keyed runs keys → (marks : List ℕ) → Ready (keys_by runs) marks keys
 unfolding least_bytes MarkBytes
@@ -85,9 +85,9 @@ module _ {runs : ℕ} {counts : List ℕ} {x : ShownRun} {left : ℕ} (f : Ahead
     unfolding Good good_by most_by seen_by entry_good ends_good steps_in
     key-good marks keys = go (piece_in true runs counts x.next left) refl
       where
-        go : (p : Piece) → piece_in true runs counts x.next left ≡ p → Good (good_by (keys_by runs) marks keys) x.next.run p
-        go Stuck e = absurd (not_stuck steps-there (piece-stuck true runs counts x.next left more e))
-        go (Rows k t) e = λ h. simp (lt-ltb x.next.run runs (piece_inside true runs counts x.next left more e coded-room).0)
+        go : (p : Option Piece) → piece_in true runs counts x.next left ≡ p → Good (good_by (keys_by runs) marks keys) x.next.run p
+        go None e = absurd (not_stuck steps-there (piece-stuck true runs counts x.next left more e))
+        go (Some p) e = λ h. simp (lt-ltb x.next.run runs (piece_inside true runs counts x.next left more e coded-room).0)
 
     -- what `shown_run` asks
     pub ahead-asks : {s : Source} → s ≡ keys_by runs → {keys : List ℕ} → Keyed runs keys → (marks : List ℕ)
@@ -96,7 +96,7 @@ module _ {runs : ℕ} {counts : List ℕ} {x : ShownRun} {left : ℕ} (f : Ahead
 
     -- and what it gives
     module _ {s : Source} (by : s ≡ keys_by runs) (marks : List ℕ) {y : ShownRun} (told : Told s counts marks x.next left y) where
-      piece : piece_in true runs counts x.next left ≡ Rows y.rows y.next
+      piece : piece_in true runs counts x.next left ≡ Some (run_piece y.rows y.next)
       piece = rw by at told.0
 
       shows : 0 < y.rows → y.slot ≡ suc x.next.run

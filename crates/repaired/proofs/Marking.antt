@@ -1,7 +1,7 @@
 -- What holds at each turn of the walk over all runs that marks those which are lost. Assumes nothing.
 use Prim.Native.Nat.{ℕ, ◌+◌, ◌-◌, ◌≤◌, ◌<◌, ◌^◌}
 use native.Mathlib.Omega.{arith}
-use mathlib.Core.Bool.{Bool, false}
+use mathlib.Core.Bool.{Bool}
 use mathlib.Core.List.{List, [], ◌++◌, map, map-append, append-nil, append_assoc}
 use mathlib.Core.Path.{◌≡◌, sym, ap, ◌∙◌}
 use lib.ListN.{length, replicate, length-append, length-map, length-replicate}
@@ -10,6 +10,7 @@ use Rattle.source.specs.declared.Source.{Source}
 use Rattle.source.specs.declared.ShownRun.{ShownRun}
 use Rattle.ranges.specs.declared.Mark.{Mark}
 use Rattle.ranges.specs.Ranges.{Range, ranges_of}
+use Rattle.std.specs.Prelude.{None}
 use Rattle.ranges.specs.Recording.{mark, put_down, Recorded}
 use Rattle.ranges.proofs.Steps.{Ends, Adds}
 use Rattle.ranges.proofs.Recording.{length-put, recorded-start, recorded-added, recorded-ended}
@@ -28,7 +29,7 @@ module _ (entries runs : ℕ) (counts keys : List ℕ) (n : ℕ) (firsts₀ last
     pub ahead : Ahead runs counts x left
     pub recorded : Recorded (map lost front) m firsts₀ lasts₀ firsts lasts
 
-  pub marking-start : Ahead runs counts none_yet n → {m : Mark} → m ≡ mark false 0 0 0 → {x : ShownRun} → x ≡ none_yet → Marking firsts₀ lasts₀ m n x
+  pub marking-start : Ahead runs counts none_yet n → {m : Mark} → m ≡ mark None 0 0 → {x : ShownRun} → x ≡ none_yet → Marking firsts₀ lasts₀ m n x
   marking-start f q e = rw e (record {
     front = [];
     whole = sym (all-ahead runs counts n);

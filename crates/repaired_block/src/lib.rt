@@ -82,8 +82,8 @@ pub fn write_block(
     let keys_len = sizes.keys_len();
     let from = 12 + keys_len;
     let end = from + sizes.entries_len(kind);
-    area::put(encode::high_first(keys_len as u64), 8, out, 0);
-    area::put(encode::high_first4(sizes.entries as u64), 4, out, 8);
+    area::put(encode::high_first::<8>(keys_len as u64), 8, out, 0);
+    area::put(encode::high_first::<4>(sizes.entries as u64), 4, out, 8);
     repaired_entries::write_entries(
         kind,
         entries,

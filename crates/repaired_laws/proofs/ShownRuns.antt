@@ -1,5 +1,6 @@
 -- The rows of run counts that are walked, where each run shows some row: they are those of as many runs with these counts, so that their own runs
 -- are no more and take no more bytes. Assumes nothing.
+use Rattle.std.specs.Prelude.{Ok}
 use Prim.Native.Nat.{ℕ, zero, suc, ◌+◌, ◌<◌}
 use native.Mathlib.Nat.{add-zero}
 use native.Mathlib.Omega.{arith}
@@ -13,7 +14,6 @@ use Rattle.varint.proofs.Within.{count_small}
 use Rattle.plain.specs.Each.{Each}
 use Rattle.plain.specs.Rows.{Row, null}
 use Rattle.plain.specs.Plain.{joined}
-use Rattle.rle.specs.declared.Walked.TheVariants.{Total}
 use Rattle.rle.specs.RunLength.{Run, run, runs_of, counts_of, walked, counts_part, run_numbers}
 use Rattle.rle.specs.Stepping.{spot}
 use Rattle.rle.proofs.Steps.{steps-length}
@@ -63,7 +63,7 @@ module _ (show : ℕ → Row) where
   shown i (w ∷ ws) (suc j) l = let e : i + suc j ≡ suc i + j = omega arith in ap show e ∙ shown (suc i) ws j (omega arith)
 
   -- ---- of counts that are walked
-  module _ (runs : ℕ) (counts : List ℕ) (n : ℕ) (sum : walked runs counts ≡ Total n) where
+  module _ (runs : ℕ) (counts : List ℕ) (n : ℕ) (sum : walked runs counts ≡ Ok n) where
     abbrev rows : List Row
     rows = map show (run_numbers runs 0 counts)
 

@@ -1,83 +1,56 @@
 // What commands give: a column and a target, equal rows.
-use builder::{Builder, Created};
-use read_back::{Named, named_at, show_named};
-use script::{first, number, past, refused, rest, show_size};
+use builder::Builder;
+use limits::refusal::Refusal;
+use read_back::Named;
+use script::{Input, refused, show};
 use trial::Rows;
 
-// What a builder is made by, and the place after it.
+// What a builder is made by.
 #[derive(Clone, Copy)]
 pub struct Plan {
-    pub named: Named,
-    pub target: usize,
-    pub next: usize,
+    named: Named,
+    target: usize,
 }
 
-// Taken and shown.
-pub fn plan_at(s: &[u8], at: usize) -> Plan {
-    let named = named_at(s, at);
-    let target = number(s, named.next);
-    show_named(named);
-    show_size(target.value);
-    Plan {
-        named,
-        target: target.value,
-        next: target.next,
-    }
-}
-
-fn created(answer: Created) -> Builder {
+fn created(answer: Result<Builder, Refusal>) -> Builder {
     match answer {
-        Created::New(builder) => builder,
-        Created::Refused(number) => {
-            refused(number);
+        Ok(builder) => builder,
+        Err(refusal) => {
+            refused(u8::from(refusal));
             trial::no_builder()
         }
     }
 }
 
-// A builder with key target 0: the original has no other.
-pub fn planned(plan: Plan) -> Builder {
-    let named = plan.named;
-    let answer = builder::create_with_key_target(
-        named.kind,
-        named.encoding,
-        named.width,
-        plan.target,
-        0,
-    );
-    created(answer)
-}
+impl Plan {
+    // Taken and shown.
+    pub fn taken(input: &mut Input) -> Plan {
+        let named = Named::taken(input);
+        let target = input.number();
+        named.show();
+        show(target);
+        Plan { named, target }
+    }
 
-// Equal rows, with a question before each; where their bytes stand; the place after them.
-#[derive(Clone, Copy)]
-pub struct Given {
-    pub rows: Rows,
-    pub from: usize,
-    pub next: usize,
-}
-
-pub fn rows_at(s: &[u8], at: usize) -> Given {
-    let times = number(s, at);
-    let presence = number(s, times.next);
-    let value = number(s, presence.next);
-    let len = number(s, value.next);
-    Given {
-        rows: Rows {
-            times: times.value,
-            presence: presence.value,
-            start: value.value as u64,
-            step: 0,
-            period: 0,
-            own: false,
-            len: len.value,
-            asks: true,
-        },
-        from: len.next,
-        next: past(len.next, len.value),
+    // A builder with key target 0: the original has no other.
+    pub fn builder(self) -> Builder {
+        let named = self.named;
+        let answer = builder::create_with_key_target(
+            named.kind,
+            named.encoding,
+            named.width,
+            self.target,
+            0,
+        );
+        created(answer)
     }
 }
 
-// Their bytes.
-pub fn text_of(s: &[u8], given: Given) -> &[u8] {
-    first(rest(s, given.from), given.rows.len)
+// Equal rows, with a question before each.
+pub fn rows<'a>(input: &mut Input<'a>) -> Rows<'a> {
+    let equal = Rows::equal(input);
+    Rows {
+        asks: true,
+        ..equal
+    }
 }

@@ -1,59 +1,57 @@
 // All the commands of an input, as `try_replay` tells them, one after another.
 #![tactic(auto)]
 
-ghost use Rattle.std.specs.Prelude.{◌<◌};
-
+use cells::Areas;
 use replay_by::State;
-use script::{byte, say};
+use script::say;
 
-fn run(
-    s: &[u8],
-    state: State,
-    items: &mut [u8],
-    ends: &mut [u32],
-    flags: &mut [u8],
-    counts: &mut [u32],
-    keys: &mut [i32],
-    lens: &mut [u8],
-    room: &mut [u8],
-) -> State {
-    let command = byte(s, state.reading.at);
-    let next = replay_by::begun(state);
+// A command, by its number.
+#[derive(Clone, Copy)]
+enum Command {
+    Create,
+    Append,
+    Finish,
+    Open,
+    Read,
+    Give,
+    Cut,
+}
+
+impl From<u8> for Command {
+    fn from(number: u8) -> Command {
+        match number {
+            0 => Command::Create,
+            1 => Command::Append,
+            2 => Command::Finish,
+            3 => Command::Open,
+            4 => Command::Read,
+            6 => Command::Cut,
+            _ => Command::Give,
+        }
+    }
+}
+
+fn run(state: &mut State, areas: &mut Areas, room: &mut [u8]) {
+    let command = Command::from(state.reading.input.byte());
     match command {
-        0 => replay_by::create(s, next),
-        1 => replay_by::append(s, next, items, ends, flags, counts, keys, lens),
-        2 => replay_by::finish(next, items, ends, flags, counts, keys, lens, room),
-        6 => cut_by::run(s, next, items, ends, flags, counts, keys, lens, room),
-        _ => replay_by::read(s, next, command, room),
+        Command::Create => state.create(),
+        Command::Append => state.append(areas),
+        Command::Finish => state.finish(areas, room),
+        Command::Open => state.reading.open(room),
+        Command::Read => state.reading.read(room),
+        Command::Give => state.reading.give_block(room),
+        Command::Cut => cut_by::run(state, areas, room),
     }
 }
 
-// The commands that there can still be: each takes a byte at least.
-fn left_after(len: usize, at: usize, left: usize) -> usize
-    requires { 0 < left }
-    ensures { result < left }
-{
-    if len <= at {
-        return 0;
-    }
-    left - 1
-}
-
-pub fn run_all(
-    s: &[u8],
-    items: &mut [u8],
-    ends: &mut [u32],
-    flags: &mut [u8],
-    counts: &mut [u32],
-    keys: &mut [i32],
-    lens: &mut [u8],
-    room: &mut [u8],
-) {
-    let mut state = replay_by::start();
-    let mut left = s.len();
-    while 0 < left {
-        state = run(s, state, items, ends, flags, counts, keys, lens, room);
-        left = left_after(s.len(), state.reading.at, left);
+// Each command takes a byte at least, so there are no more of them than bytes.
+pub fn run_all(s: &[u8], areas: &mut Areas, room: &mut [u8]) {
+    let mut state = State::new(s);
+    for _ in 0..s.len() {
+        run(&mut state, areas, room);
         say(b"\n");
+        if state.reading.input.is_done() {
+            return;
+        }
     }
 }

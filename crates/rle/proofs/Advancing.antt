@@ -1,24 +1,20 @@
 -- `advance` and the loops of `pass_runs` and `pass_on`: what is left to pass reaches where the whole does. Assumes nothing.
+use Rattle.std.specs.Prelude.{Option, Some, None}
 use Prim.Native.Nat.{ℕ, ◌+◌, ◌-◌, ◌≤◌, ◌<◌}
 use native.Mathlib.Nat.{zero-add}
 use native.Mathlib.Omega.{arith}
 use mathlib.Core.List.{List}
-use mathlib.Core.Path.{◌≡◌, refl, sym, ap, subst, ◌∙◌}
+use mathlib.Core.Path.{◌≡◌, refl, sym, ap, ◌∙◌}
 use lib.ListN.{replicate}
 use Rattle.varint.specs.declared.Count.{Count}
-use Rattle.varint.specs.declared.Count.TheVariants.{Number, Bad}
-use Rattle.varint.specs.Varint.{count_at}
+use Rattle.varint.specs.Varint.{count_at, counted}
 use Rattle.rle.specs.declared.Spot.{Spot}
-use Rattle.rle.specs.declared.Rest.{Rest}
-use Rattle.rle.specs.declared.Rest.TheVariants.{Rows, Wrong}
-use Rattle.rle.specs.declared.Reached.TheVariants.{At, Stuck}
-use Rattle.rle.specs.declared.Gone.{Gone}
-use Rattle.rle.specs.declared.Gone.TheVariants.{To, Stuck as StuckOnTheWay}
 use Rattle.rle.specs.Stepping.{spot, here, steps_from}
-use Rattle.rle.specs.Pieces.{rest_of, reached, Onward, Goes}
+use Rattle.rle.specs.Pieces.{rest_of, reached, Onward, Goes, run_rest, gone}
 use Rattle.rle.proofs.Steps.{reached-before}
 use Rattle.rle.proofs.OneRun.{here-is}
 use Rattle.rle.proofs.RestOfRun.{Found, found, wrong-stuck, found_in, found-past, rest-past, rest-bad, rest-zero, rest-rows}
+use Rattle.rle.specs.declared.Rest.{Rest}
 
 pub record Going (runs : ℕ) (counts : List ℕ) (n : ℕ) (s : Spot) (run at taken left : ℕ) : Type 0 where
   pub whole : reached (steps_from runs counts n s) ≡ reached (steps_from runs counts left (spot run at taken))
@@ -32,20 +28,20 @@ pub from-its-start : (runs : ℕ) (counts : List ℕ) (n : ℕ) (s : Spot) → s
 from-its-start runs counts n s h = ap (λ (t : ℕ). reached (steps_from runs counts n (spot s.run s.at t))) (sym h)
 
 module _ {runs : ℕ} {counts : List ℕ} {n : ℕ} {s : Spot} {run at taken left : ℕ} (w : Going runs counts n s run at taken left) where
-  pub going_end : left ≤ 0 → At (spot run at taken) ≡ reached (steps_from runs counts n s)
+  pub going_end : left ≤ 0 → Some (spot run at taken) ≡ reached (steps_from runs counts n s)
   unfolding reached steps_from
   going_end h = let z : left ≡ 0 = omega arith in sym (w.whole ∙ rw z)
 
-  module _ (l : 0 < left) {a : Rest} (e : a ≡ rest_of (here runs counts (spot run at taken)) taken) where
-    pub going-wrong : a ≡ Wrong → Stuck ≡ reached (steps_from runs counts n s)
+  module _ (l : 0 < left) {a : Option Rest} (e : a ≡ rest_of (here runs counts (spot run at taken)) taken) where
+    pub going-wrong : a ≡ None → None ≡ reached (steps_from runs counts n s)
     unfolding reached
     going-wrong b = sym (w.whole ∙ rw (wrong-stuck runs counts (spot run at taken) e left l b))
 
-    module _ {free len : ℕ} (b : a ≡ Rows free len) where
+    module _ {free len : ℕ} (b : a ≡ Some (run_rest free len)) where
       pub going-found : Found runs counts (spot run at taken) free len
       going-found = found runs counts (spot run at taken) e b
 
-      pub going-in : left < free → At (spot run at (taken + left)) ≡ reached (steps_from runs counts n s)
+      pub going-in : left < free → Some (spot run at (taken + left)) ≡ reached (steps_from runs counts n s)
       unfolding reached
       going-in z = sym (w.whole ∙ rw (found_in going-found left z))
 
@@ -82,29 +78,29 @@ module _ {counts : List ℕ} {stop n : ℕ} {s : Spot} {run at left : ℕ} (w : 
     fresh = λ l. absurd (omega arith);
   }
 
-  pub passing-end : left ≤ 0 → Goes counts stop s n (To (spot run at 0) 0)
+  pub passing-end : left ≤ 0 → Goes counts stop s n (Some (gone (spot run at 0) 0))
   passing-end z =
       let none : left ≡ 0 = omega arith in
       record { leads = λ runs h. rw none at (w.going runs h).whole; onward = no_more 0 }
 
-  pub passing-stop : stop ≤ run → Goes counts stop s n (To (spot run at 0) left)
+  pub passing-stop : stop ≤ run → Goes counts stop s n (Some (gone (spot run at 0) left))
   passing-stop z = record {
     leads = λ runs h. (w.going runs h).whole;
     onward = record { ahead = w.ahead; few = w.few; inside = w.inside; stopped = λ l. z; fresh = λ l. refl };
   }
 
-  module _ (l : 0 < left) {a : Rest} (e : a ≡ rest_of (here stop counts (spot run at 0)) 0) where
+  module _ (l : 0 < left) {a : Option Rest} (e : a ≡ rest_of (here stop counts (spot run at 0)) 0) where
     in-more : (runs : ℕ) → stop ≤ runs → run < stop → a ≡ rest_of (here runs counts (spot run at 0)) 0
     in-more runs h i = e ∙ ap (λ c. rest_of c 0) (same_here counts stop runs (spot run at 0) h i)
 
-    pub passing-wrong : a ≡ Wrong → run < stop → Goes counts stop s n StuckOnTheWay
+    pub passing-wrong : a ≡ None → run < stop → Goes counts stop s n None
     passing-wrong b i = record { leads = λ runs h. going-wrong (w.going runs h) l (in-more runs h i) b; onward = tt }
 
-    module _ {free len : ℕ} (b : a ≡ Rows free len) where
+    module _ {free len : ℕ} (b : a ≡ Some (run_rest free len)) where
       pub passing-found : Found stop counts (spot run at 0) free len
       passing-found = found stop counts (spot run at 0) e b
 
-      pub passing-in : left < free → Goes counts stop s n (To (spot run at left) 0)
+      pub passing-in : left < free → Goes counts stop s n (Some (gone (spot run at left) 0))
       unfolding reached steps_from
       passing-in z = record {
         leads = λ runs h. sym (rw (zero-add left) at (going-in (w.going runs h) l (in-more runs h passing-found.inside) b z));
@@ -130,36 +126,36 @@ few-start counts most n run at =
     record { passing = rw m (passing-start counts (run + most) n run at); within = omega arith }
 
 module _ {counts : List ℕ} {stop n : ℕ} {s : Spot} {few at left : ℕ} (w : Few counts stop n s few at left) where
-  pub few-end : left ≤ 0 → Goes counts stop s n (To (spot (stop - few) at 0) 0)
+  pub few-end : left ≤ 0 → Goes counts stop s n (Some (gone (spot (stop - few) at 0) 0))
   few-end z = passing-end w.passing z
 
-  pub few-used : few ≡ 0 → Goes counts stop s n (To (spot stop at 0) left)
+  pub few-used : few ≡ 0 → Goes counts stop s n (Some (gone (spot stop at 0) left))
   few-used z =
       let m : stop - few ≡ stop = omega arith in
       rw m at (passing-stop w.passing (omega arith))
 
   -- a run before `stop`, by its count
-  module _ (l : 0 < left) (some : few ≡ 0 → ⊥) {c : Count} (e : c ≡ count_at counts at) where
+  module _ (l : 0 < left) (some : few ≡ 0 → ⊥) {c : Option Count} (e : c ≡ count_at counts at) where
     lies-before : stop - few < stop
     lies-before = omega (arith, w.within)
 
-    pub few-bad : c ≡ Bad → Goes counts stop s n StuckOnTheWay
+    pub few-bad : c ≡ None → Goes counts stop s n None
     few-bad b = passing-wrong w.passing l (rest-bad stop counts (spot (stop - few) at 0) lies-before e b) refl lies-before
 
-    module _ {v len : ℕ} (b : c ≡ Number v len) where
-      pub few-zero : v ≡ 0 → Goes counts stop s n StuckOnTheWay
+    module _ {v len : ℕ} (b : c ≡ counted v len) where
+      pub few-zero : v ≡ 0 → Goes counts stop s n None
       few-zero z = passing-wrong w.passing l (rest-zero stop counts (spot (stop - few) at 0) lies-before e b z) refl lies-before
 
       module _ (z : v ≡ 0 → ⊥) where
-        free : Rows v len ≡ rest_of (here stop counts (spot (stop - few) at 0)) 0
+        free : Some (run_rest v len) ≡ rest_of (here stop counts (spot (stop - few) at 0)) 0
         free =
             let m : v - 0 ≡ v = omega arith in
-            ap (λ (k : ℕ). Rows k len) (sym m) ∙ rest-rows stop counts (spot (stop - few) at 0) lies-before e b z (omega arith)
+            ap (λ (k : ℕ). Some (run_rest k len)) (sym m) ∙ rest-rows stop counts (spot (stop - few) at 0) lies-before e b z (omega arith)
 
         pub few-found : Found stop counts (spot (stop - few) at 0) v len
         few-found = passing-found w.passing l free refl
 
-        pub few-in : left < v → Goes counts stop s n (To (spot (stop - few) at left) 0)
+        pub few-in : left < v → Goes counts stop s n (Some (gone (spot (stop - few) at left) 0))
         few-in h = passing-in w.passing l free refl h
 
         pub few_on : v ≤ left → Few counts stop n s (few - 1) (at + len) (left - v)
@@ -169,6 +165,6 @@ module _ {counts : List ℕ} {stop n : ℕ} {s : Spot} {few at left : ℕ} (w : 
 
 -- ---- no run is left
 module _ {runs : ℕ} {counts : List ℕ} {n : ℕ} {s : Spot} {run at taken left : ℕ} (w : Going runs counts n s run at taken left) where
-  pub going-past : 0 < left → runs ≤ run → Stuck ≡ reached (steps_from runs counts n s)
+  pub going-past : 0 < left → runs ≤ run → None ≡ reached (steps_from runs counts n s)
   unfolding reached
   going-past l h = sym (w.whole ∙ rw (wrong-stuck runs counts (spot run at taken) (rest-past runs counts (spot run at taken) h) left l refl))

@@ -1,5 +1,6 @@
 -- The next rows, by the count of the run that reading stands in: none, that run so many times, or that run to its end and then the next.
 -- Assumes nothing.
+use Rattle.std.specs.Prelude.{Option, Some, None}
 use Prim.Native.Nat.{ℕ, zero, suc, ◌+◌, ◌-◌, ◌≤◌, ◌<◌}
 use native.Mathlib.Nat.{add-zero}
 use native.Mathlib.Omega.{arith}
@@ -11,15 +12,14 @@ use lib.Dec.{ltb, eqb}
 use lib.ListN.{replicate}
 use borrow.Author.Tests.{lt-ltb, le-ltb, eq-eqb, ne_eqb}
 use Rattle.varint.specs.declared.Count.{Count}
-use Rattle.varint.specs.declared.Count.TheVariants.{Number, Bad}
-use Rattle.varint.specs.Varint.{count_at}
+use Rattle.varint.specs.Varint.{count_at, counted}
 use Rattle.area.proofs.Laws.{lt-or-ge}
 use Rattle.rle.specs.declared.Spot.{Spot}
 use Rattle.rle.specs.Stepping.{spot, none, row, stuck, rows, leave, one, before, and_then, here, settle, next, steps_from}
 use Rattle.rle.proofs.Steps.{before-nil, before-before}
 
 -- ---- leaving a run
-stays : (v len r p t : ℕ) → (v ≡ t → ⊥) → leave (Number v len) (spot r p t) ≡ spot r p t
+stays : (v len r p t : ℕ) → (v ≡ t → ⊥) → leave (counted v len) (spot r p t) ≡ spot r p t
 unfolding leave
 stays v len r p t h = go (ltb 0 v)
   where
@@ -27,53 +27,56 @@ stays v len r p t h = go (ltb 0 v)
     go true = simp (ne_eqb _ _ h)
     go false = refl
 
-stays-zero : (len r p t : ℕ) → leave (Number 0 len) (spot r p t) ≡ spot r p t
+stays-zero : (len r p t : ℕ) → leave (counted 0 len) (spot r p t) ≡ spot r p t
 unfolding leave
 stays-zero len r p t = refl
 
-goes : (v len r p t : ℕ) → 0 < v → v ≡ t → leave (Number v len) (spot r p t) ≡ spot (r + 1) (p + len) 0
+goes : (v len r p t : ℕ) → 0 < v → v ≡ t → leave (counted v len) (spot r p t) ≡ spot (r + 1) (p + len) 0
 unfolding leave
 goes v len r p t h e = simp (lt-ltb _ _ h, eq-eqb _ _ e)
 
-fresh : (c : Count) (r p : ℕ) → leave c (spot r p 0) ≡ spot r p 0
+fresh : (c : Option Count) (r p : ℕ) → leave c (spot r p 0) ≡ spot r p 0
 unfolding leave
-fresh Bad r p = refl
-fresh (Number zero len) r p = refl
-fresh (Number (suc v) len) r p = stays (suc v) len r p 0 (λ e. omega arith)
+fresh None r p = refl
+fresh (Some c) r p = go c.value
+  where
+    go : (v : ℕ) → leave (counted v c.len) (spot r p 0) ≡ spot r p 0
+    go zero = refl
+    go (suc v) = stays (suc v) c.len r p 0 (λ e. omega arith)
 
 module _ (runs : ℕ) (counts : List ℕ) where
   -- ---- one row
-  pub here-past : (s : Spot) → runs ≤ s.run → here runs counts s ≡ Bad
+  pub here-past : (s : Spot) → runs ≤ s.run → here runs counts s ≡ None
   unfolding here
   here-past s h = simp (le-ltb _ _ h)
 
-  pub here-is : (s : Spot) {c : Count} → s.run < runs → c ≡ count_at counts s.at → here runs counts s ≡ c
+  pub here-is : (s : Spot) {c : Option Count} → s.run < runs → c ≡ count_at counts s.at → here runs counts s ≡ c
   unfolding here
   here-is s h e = simp (lt-ltb _ _ h) (sym e)
 
   -- by the count there, and the place after leaving
-  by : (s t : Spot) {c : Count} → here runs counts s ≡ c → leave c s ≡ t → next runs counts s ≡ one (here runs counts t) t
+  by : (s t : Spot) {c : Option Count} → here runs counts s ≡ c → leave c s ≡ t → next runs counts s ≡ one (here runs counts t) t
   unfolding next settle
   by s t e l = rw (e, l)
 
   next-fresh : (r p : ℕ) → next runs counts (spot r p 0) ≡ one (here runs counts (spot r p 0)) (spot r p 0)
   next-fresh r p = by (spot r p 0) (spot r p 0) refl (fresh _ r p)
 
-  pub none-bad : (s : Spot) → here runs counts s ≡ Bad → next runs counts s ≡ none
+  pub none-bad : (s : Spot) → here runs counts s ≡ None → next runs counts s ≡ none
   unfolding leave one
   none-bad s e = by s s e refl ∙ rw e
 
-  module _ (r p t : ℕ) {v len : ℕ} (h : r < runs) (e : Number v len ≡ count_at counts p) where
-    is : here runs counts (spot r p t) ≡ Number v len
+  module _ (r p t : ℕ) {v len : ℕ} (h : r < runs) (e : counted v len ≡ count_at counts p) where
+    is : here runs counts (spot r p t) ≡ counted v len
     is = here-is (spot r p t) h e
 
-    stay : (v ≡ t → ⊥) → next runs counts (spot r p t) ≡ one (Number v len) (spot r p t)
+    stay : (v ≡ t → ⊥) → next runs counts (spot r p t) ≡ one (counted v len) (spot r p t)
     stay n = by (spot r p t) (spot r p t) is (stays v len r p t n) ∙ rw is
 
     pub none-zero : v ≡ 0 → next runs counts (spot r p t) ≡ none
     unfolding one
     none-zero z =
-        let i : here runs counts (spot r p t) ≡ Number 0 len = is ∙ rw z in
+        let i : here runs counts (spot r p t) ≡ counted 0 len = is ∙ rw z in
         by (spot r p t) (spot r p t) i (stays-zero len r p t) ∙ rw i (simp (le-ltb t 0 (omega arith)))
 
     pub none_below : v < t → next runs counts (spot r p t) ≡ none
@@ -110,7 +113,7 @@ module _ (runs : ℕ) (counts : List ℕ) where
   pub past-runs : (n : ℕ) (s : Spot) → 0 < n → runs ≤ s.run → steps_from runs counts n s ≡ stuck
   past-runs n s p h = stops n s p (none-bad s (here-past s h))
 
-  module _ (r p : ℕ) {v len : ℕ} (h : r < runs) (e : Number v len ≡ count_at counts p) where
+  module _ (r p : ℕ) {v len : ℕ} (h : r < runs) (e : counted v len ≡ count_at counts p) where
     -- k rows of a run that has more
     pub rows_in : (k t : ℕ) → t + k < v → steps_from runs counts k (spot r p t) ≡ rows (replicate k r) (spot r p (t + k))
     unfolding steps_from before

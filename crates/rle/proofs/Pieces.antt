@@ -1,4 +1,5 @@
 -- Rows of one run: what a piece says of the next rows, and the returns of `take_piece`. Assumes nothing.
+use Rattle.std.specs.Prelude.{Option, Some, None}
 use Prim.Native.Nat.{ℕ, suc, ◌+◌, ◌-◌, ◌^◌, ◌≤◌, ◌<◌}
 use native.Mathlib.Omega.{arith}
 use mathlib.Core.Bool.{Bool, true, false, cond}
@@ -8,14 +9,12 @@ use lib.Dec.{ltb}
 use lib.ListN.{replicate}
 use borrow.Author.Tests.{lt-ltb, le-ltb, ltb-true, ltb-false}
 use Rattle.rle.specs.declared.Spot.{Spot}
-use Rattle.rle.specs.declared.Rest.{Rest}
-use Rattle.rle.specs.declared.Rest.TheVariants.{Rows as RestRows, Wrong}
-use Rattle.rle.specs.declared.Piece.{Piece}
-use Rattle.rle.specs.declared.Piece.TheVariants.{Rows, Stuck}
 use Rattle.rle.specs.Stepping.{spot, stuck, before, and_then, here, steps_from}
-use Rattle.rle.specs.Pieces.{rest_of, piece_by, piece_in, steps_in}
+use Rattle.rle.specs.Pieces.{rest_of, piece_by, piece_in, steps_in, run_piece, run_rest}
 use Rattle.rle.proofs.Steps.{next_in, steps-more, Room, coded-room}
 use Rattle.rle.proofs.RestOfRun.{Found, found, wrong-stuck, found_in, found-past}
+use Rattle.rle.specs.declared.Rest.{Rest}
+use Rattle.rle.specs.declared.Piece.{Piece}
 
 -- the three pieces that there are: a row by itself, as many rows of a run as are wanted, and all rows that are left of a run
 data Cut (runs : ℕ) (counts : List ℕ) (s : Spot) (n : ℕ) : Bool → ℕ → Spot → Type 0 where
@@ -23,23 +22,23 @@ data Cut (runs : ℕ) (counts : List ℕ) (s : Spot) (n : ℕ) : Bool → ℕ �
   part : {free len : ℕ} → Found runs counts s free len → n < free → Cut runs counts s n true n (spot s.run s.at (s.taken + n))
   rest : {free len : ℕ} → Found runs counts s free len → free ≤ n → Cut runs counts s n true free (spot (s.run + 1) (s.at + len) 0)
 
-abbrev Tells : Bool → ℕ → List ℕ → Spot → ℕ → Piece → Type 0
-Tells coded runs counts s n (Rows k t) = Cut runs counts s n coded k t
-Tells coded runs counts s n Stuck = steps_in coded runs counts n s ≡ stuck
+abbrev Tells : Bool → ℕ → List ℕ → Spot → ℕ → Option Piece → Type 0
+Tells coded runs counts s n (Some p) = Cut runs counts s n coded p.rows p.next
+Tells coded runs counts s n None = steps_in coded runs counts n s ≡ stuck
 
 rest-tells : (runs : ℕ) (counts : List ℕ) (s : Spot) (n : ℕ) → 0 < n
-    → (a : Rest) → a ≡ rest_of (here runs counts s) s.taken → Tells true runs counts s n (piece_by a s n)
+    → (a : Option Rest) → a ≡ rest_of (here runs counts s) s.taken → Tells true runs counts s n (piece_by a s n)
 unfolding piece_by steps_in
-rest-tells runs counts s n p Wrong e = wrong-stuck runs counts s e n p refl
-rest-tells runs counts s n p (RestRows free len) e = go (ltb n free) refl
+rest-tells runs counts s n p None e = wrong-stuck runs counts s e n p refl
+rest-tells runs counts s n p (Some r) e = go (ltb n r.free) refl
   where
-    f : Found runs counts s free len
+    f : Found runs counts s r.free r.len
     f = found runs counts s e refl
 
-    go : (b : Bool) → ltb n free ≡ b
-        → Tells true runs counts s n (cond b (Rows n (spot s.run s.at (s.taken + n))) (Rows free (spot (s.run + 1) (s.at + len) 0)))
-    go true h = part f (ltb-true n free h)
-    go false h = rest f (ltb-false n free h)
+    go : (b : Bool) → ltb n r.free ≡ b
+        → Tells true runs counts s n (cond b (Some (run_piece n (spot s.run s.at (s.taken + n)))) (Some (run_piece r.free (spot (s.run + 1) (s.at + r.len) 0))))
+    go true h = part f (ltb-true n r.free h)
+    go false h = rest f (ltb-false n r.free h)
 
 tells : (coded : Bool) (runs : ℕ) (counts : List ℕ) (s : Spot) (n : ℕ) → 0 < n → Tells coded runs counts s n (piece_in coded runs counts s n)
 unfolding piece_in
@@ -48,10 +47,10 @@ tells false runs counts s n p = alone
 
 -- ---- what a piece says
 module _ (coded : Bool) (runs : ℕ) (counts : List ℕ) (s : Spot) (n : ℕ) (p : 0 < n) where
-  pub piece-stuck : piece_in coded runs counts s n ≡ Stuck → steps_in coded runs counts n s ≡ stuck
+  pub piece-stuck : piece_in coded runs counts s n ≡ None → steps_in coded runs counts n s ≡ stuck
   piece-stuck e = subst (Tells coded runs counts s n) e (tells coded runs counts s n p)
 
-  module _ {k : ℕ} {t : Spot} (e : piece_in coded runs counts s n ≡ Rows k t) where
+  module _ {k : ℕ} {t : Spot} (e : piece_in coded runs counts s n ≡ Some (run_piece k t)) where
     cut : Cut runs counts s n coded k t
     cut = subst (Tells coded runs counts s n) e (tells coded runs counts s n p)
 
@@ -114,20 +113,20 @@ module _ (coded : Bool) (runs : ℕ) (counts : List ℕ) (s : Spot) (n : ℕ) (p
 
 -- ---- the returns of `take_piece`
 module _ (coded : Bool) (runs : ℕ) (counts : List ℕ) (s : Spot) (left : ℕ) where
-  pub gives-alone : coded ≡ false → Rows 1 (spot (s.run + 1) s.at s.taken) ≡ piece_in coded runs counts s left
+  pub gives-alone : coded ≡ false → Some (run_piece 1 (spot (s.run + 1) s.at s.taken)) ≡ piece_in coded runs counts s left
   unfolding piece_in
   gives-alone h = rw h
 
-  module _ (h : coded ≡ true) {a : Rest} (e : a ≡ rest_of (here runs counts s) s.taken) where
-    pub gives_none : a ≡ Wrong → Stuck ≡ piece_in coded runs counts s left
+  module _ (h : coded ≡ true) {a : Option Rest} (e : a ≡ rest_of (here runs counts s) s.taken) where
+    pub gives_none : a ≡ None → None ≡ piece_in coded runs counts s left
     unfolding piece_in piece_by
     gives_none b = rw (h, ← e, b)
 
-    module _ {free len : ℕ} (b : a ≡ RestRows free len) where
-      pub gives_part : left < free → Rows left (spot s.run s.at (s.taken + left)) ≡ piece_in coded runs counts s left
+    module _ {free len : ℕ} (b : a ≡ Some (run_rest free len)) where
+      pub gives_part : left < free → Some (run_piece left (spot s.run s.at (s.taken + left))) ≡ piece_in coded runs counts s left
       unfolding piece_in piece_by
       gives_part l = rw (h, ← e, b) (simp (lt-ltb _ _ l))
 
-      pub gives-rest : free ≤ left → Rows free (spot (s.run + 1) (s.at + len) 0) ≡ piece_in coded runs counts s left
+      pub gives-rest : free ≤ left → Some (run_piece free (spot (s.run + 1) (s.at + len) 0)) ≡ piece_in coded runs counts s left
       unfolding piece_in piece_by
       gives-rest l = rw (h, ← e, b) (simp (le-ltb _ _ l))

@@ -1,34 +1,31 @@
 -- Runs whose counts are a byte each, passed over in groups: the walk adds up their bytes, and rows lead to the run behind them. Assumes nothing.
-use Prim.Native.Nat.{ℕ, zero, suc, ◌+◌, ◌-◌, ◌*◌, ◌^◌, ◌≤◌, ◌<◌}
+use Rattle.std.specs.Prelude.{Option, Some, None}
+use Prim.Native.Nat.{ℕ, suc, ◌+◌, ◌-◌, ◌*◌, ◌^◌, ◌≤◌, ◌<◌}
 use native.Mathlib.Nat.{add-zero, zero-add, suc-add}
 use native.Mathlib.Omega.{arith}
 use mathlib.Core.List.{List, [], ◌∷◌, ◌++◌}
 use mathlib.Core.Logic.{⊎_elim}
-use mathlib.Core.Path.{◌≡◌, refl, sym, ap, subst, ◌∙◌}
-use lib.ListN.{length, take, drop, replicate, take-append-drop, length-drop, length-append}
+use mathlib.Core.Path.{◌≡◌, sym, ap, subst, ◌∙◌}
+use lib.ListN.{length, take, drop, replicate, take-append-drop, length-drop}
 use lib.Seq.{drop-drop, length-take-le}
 use borrow.Author.Tests.{lt-ltb, ne_eqb}
-use Rattle.varint.specs.declared.Count.TheVariants.{Number}
-use Rattle.varint.specs.Varint.{count_within, in_32_bits, count_of, count_at}
+use Rattle.varint.specs.Varint.{count_within, in_32_bits, count_of, count_at, counted}
 use Rattle.plain.specs.Each.{Each}
 use Rattle.shorts.specs.declared.Passed.{Passed}
 use Rattle.shorts.specs.Shorts.{Short, sum_by, as_is, Passes}
-use Rattle.rle.specs.declared.Walked.{Walked}
 use Rattle.rle.specs.RunLength.{plus, walked_past, walked}
 use Rattle.rle.specs.declared.Spot.{Spot}
 use Rattle.rle.specs.Stepping.{spot, steps_from}
-use Rattle.rle.specs.declared.Gone.{Gone}
-use Rattle.rle.specs.declared.Gone.TheVariants.{To, Stuck as StuckOnTheWay}
-use Rattle.rle.specs.declared.Reached.TheVariants.{At, Stuck}
-use Rattle.rle.specs.Pieces.{reached, Goes}
+use Rattle.rle.specs.Pieces.{reached, Goes, gone}
 use Rattle.area.proofs.Laws.{lt-or-ge}
 use Rattle.rle.proofs.Steps.{reached-before}
 use Rattle.rle.proofs.RestOfRun.{Found, found-past}
 use Rattle.rle.proofs.Walking.{plus-plus, plus-zero, Walking}
 use Rattle.rle.proofs.Advancing.{Going}
+use Rattle.rle.specs.declared.Gone.{Gone}
 
 -- ---- a short byte is a count by itself
-short-count : (b : ℕ) (s : List ℕ) → Short b → count_of (b ∷ s) ≡ Number b 1
+short-count : (b : ℕ) (s : List ℕ) → Short b → count_of (b ∷ s) ≡ counted b 1
 unfolding count_of count_within in_32_bits
 short-count b s h =
     let small : b < 2 ^ 32 = omega (arith, h.1) in
@@ -137,18 +134,18 @@ module _ {runs : ℕ} {counts : List ℕ} {n : ℕ} {s : Spot} {run at left : �
   pub grouped-inside : run + p.runs ≤ runs
   grouped-inside = omega (arith, g.few)
 
-  module _ {stop : ℕ} (le : stop ≤ runs) {r : Gone} (f : Goes counts stop (spot (run + p.runs) (at + p.runs) 0) (left - p.rows) r) where
-    abbrev Gives : Gone → Type 0
+  module _ {stop : ℕ} (le : stop ≤ runs) {r : Option Gone} (f : Goes counts stop (spot (run + p.runs) (at + p.runs) 0) (left - p.rows) r) where
+    abbrev Gives : Option Gone → Type 0
     Gives x = Goes counts stop (spot (run + p.runs) (at + p.runs) 0) (left - p.rows) x
 
-    pub part-stuck : r ≡ StuckOnTheWay → Stuck ≡ reached (steps_from runs counts n s)
-    part-stuck b = let x : Gives StuckOnTheWay = subst Gives b f in x.leads runs le ∙ sym grouped.whole
+    pub part-stuck : r ≡ None → None ≡ reached (steps_from runs counts n s)
+    part-stuck b = let x : Gives None = subst Gives b f in x.leads runs le ∙ sym grouped.whole
 
-    module _ {t : Spot} {rows : ℕ} (b : r ≡ To t rows) where
-      goes : Gives (To t rows)
+    module _ {t : Spot} {rows : ℕ} (b : r ≡ Some (gone t rows)) where
+      goes : Gives (Some (gone t rows))
       goes = subst Gives b f
 
-      pub part-there : rows ≡ 0 → At t ≡ reached (steps_from runs counts n s)
+      pub part-there : rows ≡ 0 → Some t ≡ reached (steps_from runs counts n s)
       unfolding reached steps_from
       part-there z = sym (grouped.whole ∙ rw z at (goes.leads runs le))
 

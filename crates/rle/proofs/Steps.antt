@@ -1,4 +1,5 @@
 -- Steps: rows in front of others, how many rows there are, which runs they lie in, and how they split. Assumes nothing.
+use Rattle.std.specs.Prelude.{Option, Some, None}
 use Prim.Native.Nat.{ℕ, zero, suc, ◌+◌, ◌≤◌, ◌<◌}
 use native.Mathlib.Nat.{add-zero, zero-add, suc-add}
 use native.Mathlib.Numerals.{add-one}
@@ -12,7 +13,6 @@ use lib.Seq.{take_at, drop_at}
 use borrow.Author.Tests.{ltb-true}
 use Rattle.plain.specs.Plain.{places}
 use Rattle.varint.specs.declared.Count.{Count}
-use Rattle.varint.specs.declared.Count.TheVariants.{Number, Bad}
 use Rattle.varint.specs.Varint.{count_at}
 use Rattle.rle.specs.declared.Spot.{Spot}
 use Rattle.rle.specs.Stepping.{spot, Step, none, row, Steps, stuck, rows, leave, one, before, and_then, here, settle, next, steps_from}
@@ -97,32 +97,32 @@ module _ (runs : ℕ) (counts : List ℕ) where
   InRuns none = Unit
   InRuns (row i t) = (i < runs) × (t.run ≤ runs)
 
-  leave-in : (c : Count) (s : Spot) → s.run < runs → (leave c s).run ≤ runs
+  leave-in : (c : Option Count) (s : Spot) → s.run < runs → (leave c s).run ≤ runs
   unfolding leave
-  leave-in Bad s h = omega arith
-  leave-in (Number v len) s h = go (ltb 0 v && eqb v s.taken)
+  leave-in None s h = omega arith
+  leave-in (Some c) s h = go (ltb 0 c.value && eqb c.value s.taken)
     where
-      go : (b : Bool) → (cond b (spot (s.run + 1) (s.at + len) 0) s).run ≤ runs
+      go : (b : Bool) → (cond b (spot (s.run + 1) (s.at + c.len) 0) s).run ≤ runs
       go true = omega arith
       go false = omega arith
 
-  one_in : (c : Count) (s : Spot) → s.run < runs → InRuns (one c s)
+  one_in : (c : Option Count) (s : Spot) → s.run < runs → InRuns (one c s)
   unfolding one
-  one_in Bad s h = tt
-  one_in (Number v len) s h = go (ltb s.taken v)
+  one_in None s h = tt
+  one_in (Some c) s h = go (ltb s.taken c.value)
     where
       t : Spot
-      t = leave (Number v len) (spot s.run s.at (s.taken + 1))
+      t = leave (Some c) (spot s.run s.at (s.taken + 1))
 
       go : (b : Bool) → InRuns (cond b (row s.run t) none)
-      go true = (h, leave-in (Number v len) (spot s.run s.at (s.taken + 1)) h)
+      go true = (h, leave-in (Some c) (spot s.run s.at (s.taken + 1)) h)
       go false = tt
 
   here_in : (s : Spot) → InRuns (one (here runs counts s) s)
   unfolding here one
   here_in s = go (ltb s.run runs) refl
     where
-      go : (b : Bool) → ltb s.run runs ≡ b → InRuns (one (cond b (count_at counts s.at) Bad) s)
+      go : (b : Bool) → ltb s.run runs ≡ b → InRuns (one (cond b (count_at counts s.at) None) s)
       go true h = one_in (count_at counts s.at) s (ltb-true _ _ h)
       go false h = tt
 

@@ -1,16 +1,13 @@
 -- Run-length blocks over an inner block, plain or nullable. Assumes nothing.
-use Rattle.std.specs.Prelude.{ℕ, zero, suc, ◌+◌, ◌*◌, Bool, true, false, cond, not, ◌&&◌, List, [], ◌∷◌, ◌++◌, map, ltb, eqb, length, take, drop, replicate}
+use Rattle.std.specs.Prelude.{ℕ, zero, suc, Option, Some, None, Result, Ok, Err, ◌+◌, cond, not, ◌&&◌, List, [], ◌∷◌, ◌++◌, map, ltb, eqb, length, take, drop, replicate}
 use Rattle.encode.specs.Bytes.{little, number}
 use Rattle.limits.specs.Limits.{MOST_ITEMS, MOST_COUNT}
 use Rattle.limits.specs.Refusals.{COUNTS, CUT, LIMIT, SUM, VARINT}
 use Rattle.varint.specs.declared.Count.{Count}
-use Rattle.varint.specs.declared.Count.TheVariants.{Number, Bad}
 use Rattle.varint.specs.Varint.{count_of, spelling}
 use Rattle.plain.specs.Rows.{Row, same}
 use Rattle.plain.specs.Rules.{◌if◌, first_of}
 use Rattle.plain.specs.Plain.{joined}
-use Rattle.rle.specs.declared.Walked.{Walked}
-use Rattle.rle.specs.declared.Walked.TheVariants.{Total, Refused}
 
 -- ---- the runs of a list of rows
 pub record Run : Type 0 where
@@ -56,26 +53,26 @@ inner_part len b = drop (8 + len) b
 
 -- ---- the walk over the counts
 -- a count before what the rest comes to
-unfoldable pub plus : ℕ → Walked → Walked
-plus v (Total t) = Total (v + t)
-plus v (Refused e) = Refused e
+unfoldable pub plus : ℕ → Result ℕ ℕ → Result ℕ ℕ
+plus v (Ok t) = Ok (v + t)
+plus v (Err e) = Err e
 
 -- a bad varint is 12: cut, longer than needed, or with a fifth byte above 0x0F; a count of 0 is 13; else the walk goes on behind it
-unfoldable pub walked_past : Count → (ℕ → Walked) → Walked
-walked_past Bad rest = Refused VARINT
-walked_past (Number v len) rest = cond (eqb v 0) (Refused COUNTS) (plus v (rest len))
+unfoldable pub walked_past : Option Count → (ℕ → Result ℕ ℕ) → Result ℕ ℕ
+walked_past None rest = Err VARINT
+walked_past (Some c) rest = cond (eqb c.value 0) (Err COUNTS) (plus c.value (rest c.len))
 
 -- bytes used up before the last run, and bytes left after it, are 13
-unfoldable pub walked : ℕ → List ℕ → Walked
-walked zero [] = Total 0
-walked zero (b ∷ s) = Refused COUNTS
-walked (suc runs) [] = Refused COUNTS
+unfoldable pub walked : ℕ → List ℕ → Result ℕ ℕ
+walked zero [] = Ok 0
+walked zero (b ∷ s) = Err COUNTS
+walked (suc runs) [] = Err COUNTS
 walked (suc runs) (b ∷ s) = walked_past (count_of (b ∷ s)) (λ len. walked runs (drop len (b ∷ s)))
 
 -- sum not n
-unfoldable pub walk_number : ℕ → Walked → ℕ
-walk_number n (Total t) = SUM if not (eqb t n)
-walk_number n (Refused e) = e
+unfoldable pub walk_number : ℕ → Result ℕ ℕ → ℕ
+walk_number n (Ok t) = SUM if not (eqb t n)
+walk_number n (Err e) = e
 
 -- ---- the rules: no bytes is sound for n = 0, else 16; then in this order, and last the inner rules with one item a run
 unfoldable pub run_length_number : (ℕ → List ℕ → ℕ) → ℕ → List ℕ → ℕ
@@ -92,9 +89,9 @@ run_length_number inner n b =
 
 -- ---- the rows: of each the run that it lies in
 -- run i as often as its count says
-unfoldable pub as_often : Count → ℕ → (ℕ → List ℕ) → List ℕ
-as_often Bad i rest = []
-as_often (Number v len) i rest = replicate v i ++ rest len
+unfoldable pub as_often : Option Count → ℕ → (ℕ → List ℕ) → List ℕ
+as_often None i rest = []
+as_often (Some c) i rest = replicate c.value i ++ rest c.len
 
 -- so many runs from run i on, whose counts begin the list
 unfoldable pub run_numbers : ℕ → ℕ → List ℕ → List ℕ

@@ -1,7 +1,6 @@
 -- Reading run by run, said row by row: which run each row lies in, and where reading then stands. Assumes nothing.
-use Rattle.std.specs.Prelude.{ℕ, zero, suc, ◌+◌, List, [], ◌∷◌, ◌++◌, cond, ◌&&◌, ltb, eqb}
+use Rattle.std.specs.Prelude.{ℕ, zero, suc, Option, Some, None, ◌+◌, List, [], ◌∷◌, ◌++◌, cond, ◌&&◌, ltb, eqb}
 use Rattle.varint.specs.declared.Count.{Count}
-use Rattle.varint.specs.declared.Count.TheVariants.{Number, Bad}
 use Rattle.varint.specs.Varint.{count_at}
 use Rattle.rle.specs.declared.Spot.{Spot}
 
@@ -19,14 +18,14 @@ pub data Steps : Type 0 where
   rows : List ℕ → Spot → Steps
 
 -- a run used up is left at once: the next run's count stands behind its own
-unfoldable pub leave : Count → Spot → Spot
-leave Bad s = s
-leave (Number v len) s = cond (ltb 0 v && eqb v s.taken) (spot (s.run + 1) (s.at + len) 0) s
+unfoldable pub leave : Option Count → Spot → Spot
+leave None s = s
+leave (Some c) s = cond (ltb 0 c.value && eqb c.value s.taken) (spot (s.run + 1) (s.at + c.len) 0) s
 
 -- one row more of a run, whose count has to be above the rows already taken
-unfoldable pub one : Count → Spot → Step
-one Bad s = none
-one (Number v len) s = cond (ltb s.taken v) (row s.run (leave (Number v len) (spot s.run s.at (s.taken + 1)))) none
+unfoldable pub one : Option Count → Spot → Step
+one None s = none
+one (Some c) s = cond (ltb s.taken c.value) (row s.run (leave (Some c) (spot s.run s.at (s.taken + 1)))) none
 
 unfoldable pub before : List ℕ → Steps → Steps
 before is stuck = stuck
@@ -38,8 +37,8 @@ and_then (row i t) rest = before (i ∷ []) (rest t)
 
 module _ (runs : ℕ) (counts : List ℕ) where
   -- the count of the run at a place: missing past the recorded runs, and past the counts
-  unfoldable pub here : Spot → Count
-  here s = cond (ltb s.run runs) (count_at counts s.at) Bad
+  unfoldable pub here : Spot → Option Count
+  here s = cond (ltb s.run runs) (count_at counts s.at) None
 
   -- the next row
   unfoldable pub settle : Spot → Spot

@@ -3,34 +3,26 @@
 
 ghost use Rattle.std.specs.Prelude.{◌≡◌, ◌+◌, ◌≤◌, ◌<◌, length};
 ghost use Rattle.limits.specs.Limits.{MOST_BYTES, MOST_ITEMS};
-ghost use Rattle.rle.specs.declared.Gone.TheVariants.{To};
+ghost use Rattle.limits.specs.Refusals.{by_number};
 ghost use Rattle.rle.specs.RunLength.{walked};
 ghost use Rattle.rle.specs.Stepping.{spot, here, steps_from};
-ghost use Rattle.rle.specs.Pieces.{head_found, rest_of, piece_in, reached, Walks, Goes};
+ghost use Rattle.rle.specs.Pieces.{head_found, gone, rest_of, piece_in, reached, Walks, Goes};
 
-use limits::{MOST_ITEMS, MOST_ROWS, refusal};
-use varint::Count;
+use limits::refusal::Refusal;
+use limits::{MOST_ITEMS, MOST_ROWS};
 
-// What a walk over the counts comes to: their sum, or the number of the first fault met.
+// What the first counts of a walk come to: the rows and the bytes of all of them.
 #[derive(Clone, Copy)]
-pub enum Walked {
-    Total { rows: u64 },
-    Refused(u8),
+struct First {
+    rows: u64,
+    len: usize,
 }
 
-// What the first counts of a walk come to: the rows and the bytes of all of them, or the number of the first fault met.
+// What opening finds at the head of a block: the numbers of runs and of bytes of the counts.
 #[derive(Clone, Copy)]
-enum First {
-    Counts { rows: u64, len: usize },
-    Refused(u8),
-}
-
-// What opening finds at the head: no block at all, the numbers of runs and of bytes of the counts, or a fault.
-#[derive(Clone, Copy)]
-pub enum RunHead {
-    Empty,
-    Runs { runs: usize, counts: usize },
-    Refused(u8),
+pub struct RunHead {
+    pub runs: usize,
+    pub counts: usize,
 }
 
 // A place in the runs: the run, the byte at which its count begins, and the rows already taken of it.
@@ -42,32 +34,25 @@ pub struct Spot {
     pub taken: usize,
 }
 
-// The rows still in a run and the bytes of its count; or its count is missing or wrong.
+// The rows still in a run and the bytes of its count.
 #[derive(Clone, Copy)]
-pub enum Rest {
-    Rows { free: usize, len: usize },
-    Wrong,
+pub struct Rest {
+    pub free: usize,
+    pub len: usize,
 }
 
 // Rows of one run and the place after them. A run that was used up gives none, and the place is the next run's.
 #[derive(Clone, Copy)]
-pub enum Piece {
-    Rows { rows: usize, next: Spot },
-    Stuck,
+pub struct Piece {
+    pub rows: usize,
+    pub next: Spot,
 }
 
-// The place after some rows, or a count on the way is missing or wrong.
+// Where rows that are passed over run by run lead: a place, and the rows that are left to pass from there.
 #[derive(Clone, Copy)]
-pub enum Reached {
-    At(Spot),
-    Stuck,
-}
-
-// Where rows that are passed over run by run lead: to a place, and the rows that are left to pass from there; or a count is missing or wrong.
-#[derive(Clone, Copy)]
-enum Gone {
-    To { spot: Spot, left: usize },
-    Stuck,
+struct Gone {
+    spot: Spot,
+    left: usize,
 }
 
 // How many counts are taken one by one before groups are looked at again, at first and at most.
@@ -90,39 +75,36 @@ fn next_few(few: usize, passed: usize) -> usize
 }
 
 // Walks the first `n` counts of `s`, one by one: none is 0.
-fn walk_few(s: &[u8], n: usize) -> First
+fn walk_few(s: &[u8], n: usize) -> Result<First, Refusal>
     requires { length s.now ≤ MOST_BYTES }
-    ensures { Walks s.now n result }
+    ensures { Walks s.now n (by_number result) }
 {
     let mut at: usize = 0;
     let mut total: u64 = 0;
-    let mut left = n;
-    while 0 < left {
+    for _i in 0..n {
         if s.len() <= at {
-            return First::Refused(refusal::COUNTS);
+            return Err(Refusal::Counts);
         }
-        let count = varint::decode_u32(s, at);
-        let Count::Number { value, len } = count else {
-            return First::Refused(refusal::VARINT);
+        let Some(count) = varint::decode_u32(s, at) else {
+            return Err(Refusal::Varint);
         };
-        if value == 0 {
-            return First::Refused(refusal::COUNTS);
+        if count.value == 0 {
+            return Err(Refusal::Counts);
         }
-        total += value as u64;
-        at += len;
-        left -= 1;
+        total += u64::from(count.value);
+        at += count.len;
     }
-    First::Counts {
+    Ok(First {
         rows: total,
         len: at,
-    }
+    })
 }
 
-// Walks the counts of `runs` runs: none is 0, and they fill `s`. Counts of a byte each go in groups; where a group has a longer one, some
-// go one by one.
-pub fn walk(s: &[u8], runs: usize) -> Walked
+// Walks the counts of `runs` runs: none is 0, and they fill `s`. Gives their sum. Counts of a byte each go in groups; where a group has a
+// longer one, some go one by one.
+pub fn walk(s: &[u8], runs: usize) -> Result<u64, Refusal>
     requires { length s.now ≤ MOST_BYTES }
-    ensures { result ≡ walked runs s.now }
+    ensures { by_number result ≡ walked runs s.now }
 {
     let mut at: usize = 0;
     let mut total: u64 = 0;
@@ -134,141 +116,121 @@ pub fn walk(s: &[u8], runs: usize) -> Walked
         total += short.rows as u64;
         left -= short.runs;
         most = next_few(most, short.runs);
-        let few = area::least(left, most);
-        let first = walk_few(&s[at..], few);
-        match first {
-            First::Refused(e) => {
-                return Walked::Refused(e);
-            }
-            First::Counts { rows, len } => {
-                total += rows;
-                at += len;
-                left -= few;
-            }
-        }
+        let few = left.min(most);
+        let first = walk_few(&s[at..], few)?;
+        total += first.rows;
+        at += first.len;
+        left -= few;
     }
     if at < s.len() {
-        return Walked::Refused(refusal::COUNTS);
+        return Err(Refusal::Counts);
     }
-    Walked::Total { rows: total }
+    Ok(total)
 }
 
-// Tests all that comes before the inner block.
-pub fn find_head(rows: u64, s: &[u8]) -> RunHead
+// Tests all that comes before the inner block. Zero rows have no block at all.
+pub fn find_head(rows: u64, s: &[u8]) -> Result<Option<RunHead>, Refusal>
     requires { length s.now ≤ MOST_BYTES }
-    ensures { result ≡ head_found rows s.now }
+    ensures { by_number result ≡ head_found rows s.now }
 {
     let n = s.len();
     if n == 0 {
         if rows == 0 {
-            return RunHead::Empty;
+            return Ok(None);
         }
-        return RunHead::Refused(refusal::SUM);
+        return Err(Refusal::Sum);
     }
     if n < 8 {
-        return RunHead::Refused(refusal::CUT);
+        return Err(Refusal::Cut);
     }
     let runs = plain::u32_at(s, 0);
     if MOST_ITEMS < runs {
-        return RunHead::Refused(refusal::LIMIT);
+        return Err(Refusal::Limit);
     }
     if runs == 0 {
-        return RunHead::Refused(refusal::COUNTS);
+        return Err(Refusal::Counts);
     }
     let counts = plain::u32_at(s, 4);
     let end = 8 + counts;
     if n < end {
-        return RunHead::Refused(refusal::CUT);
+        return Err(Refusal::Cut);
     }
-    let sum = walk(&s[8..end], runs);
-    match sum {
-        Walked::Refused(e) => RunHead::Refused(e),
-        Walked::Total { rows: total } => {
-            if total == rows {
-                RunHead::Runs { runs, counts }
-            } else {
-                RunHead::Refused(refusal::SUM)
-            }
-        }
+    let total = walk(&s[8..end], runs)?;
+    if total == rows {
+        Ok(Some(RunHead { runs, counts }))
+    } else {
+        Err(Refusal::Sum)
     }
 }
 
-// Looks at the count of the run at a place.
-pub fn rest_of(counts: &[u8], runs: usize, s: Spot) -> Rest
+// Looks at the count of the run at a place: none where it is missing or wrong.
+pub fn rest_of(counts: &[u8], runs: usize, s: Spot) -> Option<Rest>
     ensures { result ≡ rest_of (here runs counts.now s) s.taken }
 {
     if runs <= s.run {
-        return Rest::Wrong;
+        return None;
     }
-    let count = varint::decode_u32(counts, s.at);
-    let Count::Number { value, len } = count else {
-        return Rest::Wrong;
-    };
-    let rows = value as usize;
+    let count = varint::decode_u32(counts, s.at)?;
+    let rows = count.value as usize;
     if rows == 0 {
-        return Rest::Wrong;
+        return None;
     }
     if rows < s.taken {
-        return Rest::Wrong;
+        return None;
     }
-    Rest::Rows {
+    Some(Rest {
         free: rows - s.taken,
-        len,
-    }
+        len: count.len,
+    })
 }
 
 // Up to `left` rows of the run at a place. Where rows are not coded by runs, each is a run of its own.
-pub fn take_piece(coded: bool, counts: &[u8], runs: usize, s: Spot, left: usize) -> Piece
+pub fn take_piece(coded: bool, counts: &[u8], runs: usize, s: Spot, left: usize) -> Option<Piece>
     requires { s.run ≤ MOST_ITEMS }
     ensures { result ≡ piece_in coded runs counts.now s left }
 {
     if !coded {
-        return Piece::Rows {
+        return Some(Piece {
             rows: 1,
             next: Spot {
                 run: s.run + 1,
-                at: s.at,
-                taken: s.taken,
+                ..s
             },
-        };
+        });
     }
-    let rest = rest_of(counts, runs, s);
-    let Rest::Rows { free, len } = rest else {
-        return Piece::Stuck;
-    };
-    if left < free {
-        return Piece::Rows {
+    let rest = rest_of(counts, runs, s)?;
+    if left < rest.free {
+        return Some(Piece {
             rows: left,
             next: Spot {
-                run: s.run,
-                at: s.at,
                 taken: s.taken + left,
+                ..s
             },
-        };
+        });
     }
-    Piece::Rows {
-        rows: free,
+    Some(Piece {
+        rows: rest.free,
         next: Spot {
             run: s.run + 1,
-            at: s.at + len,
+            at: s.at + rest.len,
             taken: 0,
         },
-    }
+    })
 }
 
 // A place, and rows that are left to pass from there.
 fn gone_to(run: usize, at: usize, taken: usize, left: usize) -> Gone
-    ensures { result ≡ To (spot run at taken) left }
+    ensures { result ≡ gone (spot run at taken) left }
 {
-    Gone::To {
+    Gone {
         spot: Spot { run, at, taken },
         left,
     }
 }
 
 // Passes over `n` rows from the start of a run on, run by run, of at most `most` runs. The runs are counted down, which keeps the machine code
-// from adding up the run and its place as a pair, at twice the cost.
-fn pass_runs(counts: &[u8], most: usize, first: usize, from: usize, n: usize) -> Gone
+// from adding up the run and its place as a pair, at twice the cost. None where a count is missing or wrong.
+fn pass_runs(counts: &[u8], most: usize, first: usize, from: usize, n: usize) -> Option<Gone>
     requires { first + most ≤ MOST_ITEMS }
     ensures { Goes counts.now (first + most) (spot first from 0) n result }
 {
@@ -278,28 +240,25 @@ fn pass_runs(counts: &[u8], most: usize, first: usize, from: usize, n: usize) ->
     let mut left = n;
     while 0 < left {
         if few == 0 {
-            return gone_to(stop, at, 0, left);
+            return Some(gone_to(stop, at, 0, left));
         }
-        let count = varint::decode_u32(counts, at);
-        let Count::Number { value, len } = count else {
-            return Gone::Stuck;
-        };
-        let rows = value as usize;
+        let count = varint::decode_u32(counts, at)?;
+        let rows = count.value as usize;
         if rows == 0 {
-            return Gone::Stuck;
+            return None;
         }
         if left < rows {
-            return gone_to(stop - few, at, left, 0);
+            return Some(gone_to(stop - few, at, left, 0));
         }
         left -= rows;
         few -= 1;
-        at += len;
+        at += count.len;
     }
-    gone_to(stop - few, at, 0, 0)
+    Some(gone_to(stop - few, at, 0, 0))
 }
 
 // Passes over `n` rows from the start of a run on: runs whose counts are a byte each in groups, then some one by one, and so on.
-fn pass_on(counts: &[u8], runs: usize, first: usize, from: usize, n: usize) -> Reached
+fn pass_on(counts: &[u8], runs: usize, first: usize, from: usize, n: usize) -> Option<Spot>
     requires { runs ≤ MOST_ITEMS }
     ensures { result ≡ reached (steps_from runs counts.now n (spot first from 0)) }
 {
@@ -309,48 +268,48 @@ fn pass_on(counts: &[u8], runs: usize, first: usize, from: usize, n: usize) -> R
     let mut most = FEW;
     while 0 < left {
         if runs <= run {
-            return Reached::Stuck;
+            return None;
         }
         let short = shorts::pass(counts, at, runs - run, left);
         run += short.runs;
         at += short.runs;
         left -= short.rows;
         most = next_few(most, short.runs);
-        let gone = pass_runs(counts, area::least(runs - run, most), run, at, left);
-        let Gone::To { spot, left: rows } = gone else {
-            return Reached::Stuck;
-        };
-        if rows == 0 {
-            return Reached::At(spot);
+        let few = most.min(runs - run);
+        let gone = pass_runs(counts, few, run, at, left)?;
+        if gone.left == 0 {
+            return Some(gone.spot);
         }
-        run = spot.run;
-        at = spot.at;
-        left = rows;
+        run = gone.spot.run;
+        at = gone.spot.at;
+        left = gone.left;
     }
-    Reached::At(Spot { run, at, taken: 0 })
+    Some(Spot { run, at, taken: 0 })
 }
 
-// Passes over `n` rows: those of a run that is begun, and then the others.
-pub fn advance(counts: &[u8], runs: usize, from: Spot, n: usize) -> Reached
+// Passes over `n` rows: those of a run that is begun, and then the others. None where a count on the way is missing or wrong.
+pub fn advance(counts: &[u8], runs: usize, from: Spot, n: usize) -> Option<Spot>
     requires { runs ≤ MOST_ITEMS }
     ensures { result ≡ reached (steps_from runs counts.now n from) }
 {
     if n == 0 {
-        return Reached::At(from);
+        return Some(from);
     }
     if from.taken == 0 {
         return pass_on(counts, runs, from.run, from.at, n);
     }
-    let rest = rest_of(counts, runs, from);
-    let Rest::Rows { free, len } = rest else {
-        return Reached::Stuck;
-    };
-    if n < free {
-        return Reached::At(Spot {
-            run: from.run,
-            at: from.at,
+    let rest = rest_of(counts, runs, from)?;
+    if n < rest.free {
+        return Some(Spot {
             taken: from.taken + n,
+            ..from
         });
     }
-    pass_on(counts, runs, from.run + 1, from.at + len, n - free)
+    pass_on(
+        counts,
+        runs,
+        from.run + 1,
+        from.at + rest.len,
+        n - rest.free,
+    )
 }

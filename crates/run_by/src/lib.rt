@@ -1,68 +1,42 @@
 // All the commands of an input, as `try_building` tells them, one after another.
 #![tactic(auto)]
 
-ghost use Rattle.std.specs.Prelude.{◌<◌};
+use build_by::{Command, State};
+use cells::Areas;
+use script::say;
 
-use build_by::State;
-use script::{byte, say};
-
-// The commands that there can still be: each takes a byte at least.
-fn left_after(len: usize, at: usize, left: usize) -> usize
-    requires { 0 < left }
-    ensures { result < left }
-{
-    if len <= at {
-        return 0;
+fn run(state: &mut State, areas: &mut Areas, room: &mut [u8]) {
+    let command = Command::from(state.input.byte());
+    match command {
+        Command::Create => state.create(),
+        Command::CreateWithKeyTarget => state.create_with_key_target(),
+        Command::Row | Command::Rows | Command::EqualRows => {
+            state.append(command, areas, room);
+            finish_by::look(state, areas);
+        }
+        Command::Finish => finish_by::finish(state, areas, room),
+        Command::Estimate => state.estimate(),
+        Command::ShouldFinish => state.should_finish(),
+        Command::Set => state.set(),
+        Command::Cells => cells::set(&mut state.input, areas, room),
+        Command::Lend => state.lend(),
+        Command::View => state.set_view(),
+        Command::Show => {
+            say(b"show");
+            areas.show(state.lent);
+        }
+        Command::Sums => areas.show_sums(room),
     }
-    left - 1
 }
 
-// The state at another place.
-fn moved(state: State, at: usize) -> State {
-    let mut next = state;
-    next.at = at;
-    next
-}
-
-// A command: what it doesn't ask for does nothing.
-fn run(
-    s: &[u8],
-    state: State,
-    items: &mut [u8],
-    ends: &mut [u32],
-    flags: &mut [u8],
-    counts: &mut [u32],
-    keys: &mut [i32],
-    lens: &mut [u8],
-    room: &mut [u8],
-) -> State {
-    let command = byte(s, state.at);
-    let it = build_by::begin(s, state, command);
-    if command == 7 {
-        let at = cells::set(s, it.at, items, ends, flags, counts, keys, lens, room);
-        return moved(it, at);
-    }
-    let appended = build_by::append(s, it, command, items, ends, flags, counts, keys, lens, room);
-    finish_by::look(
-        s, appended, command, items, ends, flags, counts, keys, lens, room,
-    )
-}
-
-pub fn run_all(
-    s: &[u8],
-    items: &mut [u8],
-    ends: &mut [u32],
-    flags: &mut [u8],
-    counts: &mut [u32],
-    keys: &mut [i32],
-    lens: &mut [u8],
-    room: &mut [u8],
-) {
-    let mut state = build_by::start();
-    let mut left = s.len();
-    while 0 < left {
-        state = run(s, state, items, ends, flags, counts, keys, lens, room);
-        left = left_after(s.len(), state.at, left);
+// Each command takes a byte at least, so there are no more of them than bytes.
+pub fn run_all(s: &[u8], areas: &mut Areas, room: &mut [u8]) {
+    let mut state = State::new(s);
+    for _ in 0..s.len() {
+        run(&mut state, areas, room);
         say(b"\n");
+        if state.input.is_done() {
+            return;
+        }
     }
 }

@@ -65,24 +65,14 @@ fn descriptor_in(file: &[u8]) -> Descriptor
 pub fn head_of(file: &[u8]) -> &[u8]
     ensures { result.now ≡ take 8 file.now }
 {
-    first(file, 8)
+    file.get(..8).unwrap_or(file)
 }
 
 // The block behind it, in the memory that it was written to.
 pub fn block_made(answer: Salvaged, out: &[u8]) -> &[u8]
     ensures { result.now ≡ take answer.len out.now }
 {
-    first(out, answer.len)
-}
-
-// The first n bytes, or all if there are fewer.
-fn first(s: &[u8], n: usize) -> &[u8]
-    ensures { result.now ≡ take n s.now }
-{
-    if s.len() <= n {
-        return s;
-    }
-    &s[..n]
+    out.get(..answer.len).unwrap_or(out)
 }
 
 // ---- printing

@@ -1,4 +1,5 @@
 -- The entries of the repaired rows: their plain block is sound, they are within the limit, and they are read back as they are. Assumes nothing.
+use Rattle.std.specs.Prelude.{Some}
 use Prim.Native.Nat.{ℕ, ◌≤◌, ◌<◌, ◌^◌}
 use native.Mathlib.Omega.{arith}
 use mathlib.Core.List.{List, [], ◌∷◌, map, map-id}
@@ -13,8 +14,7 @@ use Rattle.plain.specs.Plain.{places, plain_of, plain_number, plain_row}
 use Rattle.nullable.specs.Nullable.{presence}
 use Rattle.dict.specs.Dictionary.{entries_in, entries_of}
 use Rattle.format.specs.declared.Encoding.TheVariants.{Dictionary}
-use Rattle.format.specs.declared.Column.TheVariants.{Of}
-use Rattle.format.specs.Blocks.{cut}
+use Rattle.format.specs.Blocks.{cut, column}
 use Rattle.block_laws.proofs.Accepted.{accepted-fits}
 use Rattle.block_laws.proofs.Entries.{each-entry}
 use Rattle.block_laws.proofs.Lists.{map_each, over-list}
@@ -43,7 +43,7 @@ pub record Kept (k : Kind) (es : List Row) : Type 0 where
   pub sound : plain_number k (length es) (plain_of k es) ≡ 0
   pub back : map (plain_row k (length es) (plain_of k es)) (places (length es) 0) ≡ es
 
-module _ (k : Kind) (n : ℕ) (b : List ℕ) (sound : rules_but_15 (Of k Dictionary) n b ≡ 0) where
+module _ (k : Kind) (n : ℕ) (b : List ℕ) (sound : rules_but_15 (Some (column k Dictionary)) n b ≡ 0) where
   abbrev es : List Row
   es = entries_of (repaired_rows k n b)
 

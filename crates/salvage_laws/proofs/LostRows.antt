@@ -1,9 +1,10 @@
 -- 02 (xii): which rows are lost. A row is in a range exactly if the key of its run names no entry; the ranges ascend, and between two of them lies a row
 -- that isn't lost; only rows that are lost change; of a sound block none is. Assumes nothing.
+use Rattle.std.specs.Prelude.{Some}
 use Prim.Native.Nat.{ℕ, zero, suc, ◌≤◌, ◌<◌}
 use native.Mathlib.Nat.{zero-add}
 use native.Mathlib.Omega.{arith}
-use mathlib.Core.Bool.{Bool, true, false}
+use mathlib.Core.Bool.{Bool, false}
 use mathlib.Core.List.{List, [], ◌∷◌, map}
 use mathlib.Core.Logic.{⊎_elim}
 use mathlib.Core.Path.{◌≡◌, refl, sym, ◌∙◌}
@@ -20,7 +21,6 @@ use Rattle.rle.proofs.Steps.{Below, steps-below}
 use Rattle.rle.proofs.Whole.{whole-steps}
 use Rattle.dict.proofs.Slots.{known_at}
 use Rattle.format.specs.declared.Encoding.TheVariants.{Dictionary}
-use Rattle.format.specs.declared.Column.TheVariants.{Of}
 use Rattle.format.specs.declared.Head.{Head}
 use Rattle.format.specs.Opening.{column_number, head_of, row_at, counts_in, places_of, rows_of}
 use Rattle.format.proofs.Sound.{SoundKeys, column-sound, keys-sound}
@@ -31,6 +31,7 @@ use Rattle.damaged.specs.Damaged.{rules_but_15, is_lost, repaired_at, repaired_r
 use Rattle.salvage_laws.specs.Words.{LostExactly, OnlyLostChange, SoundStays}
 use Rattle.salvage_laws.proofs.ShownSlots.{runs_of_rows, shown_at}
 use Rattle.salvage_laws.proofs.Salvaged.{rows-many}
+use Rattle.format.specs.Blocks.{column}
 
 -- what a function gives at a place that is there
 map_at : {B : Type 0} (f : ℕ → B) (is : List ℕ) (i : ℕ) (d : B) → i < length is → get_or (map f is) i d ≡ f (get_or is i 0)
@@ -44,7 +45,7 @@ pub lost-apart : (n : ℕ) (b : List ℕ) → ApartFrom 0 (lost_ranges n b)
 unfolding lost_ranges
 lost-apart n b = ranges_apart (map (is_lost (head_of Dictionary b) b) (runs_of_rows n b))
 
-module _ (k : Kind) (n : ℕ) (b : List ℕ) (sound : rules_but_15 (Of k Dictionary) n b ≡ 0) where
+module _ (k : Kind) (n : ℕ) (b : List ℕ) (sound : rules_but_15 (Some (column k Dictionary)) n b ≡ 0) where
   runs-many : length (runs_of_rows n b) ≡ n
   unfolding repaired_rows
   runs-many = sym (length-map (runs_of_rows n b) (shown_at k n b)) ∙ rows-many k n b sound
@@ -75,7 +76,7 @@ module _ (k : Kind) (n : ℕ) (b : List ℕ) (sound : rules_but_15 (Of k Diction
       (λ e. row ∙ rw e, λ e. row ∙ rw e)
 
 -- ---- a sound block
-module _ (k : Kind) (n : ℕ) (b : List ℕ) (opens : column_number (Of k Dictionary) n b ≡ 0) where
+module _ (k : Kind) (n : ℕ) (b : List ℕ) (opens : column_number (Some (column k Dictionary)) n b ≡ 0) where
   abbrev h : Head
   h = head_of Dictionary b
 

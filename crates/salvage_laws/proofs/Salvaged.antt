@@ -1,5 +1,6 @@
 -- 02 (xii): what is salvaged of a dictionary block that meets all rules but 15. Its repaired rows are as many as the block's, their block is accepted and
 -- never longer, it opens, and it gives these rows. Assumes nothing.
+use Rattle.std.specs.Prelude.{Some}
 use Prim.Native.Nat.{ℕ, ◌+◌}
 use native.Mathlib.Omega.{arith}
 use mathlib.Core.Bool.{true}
@@ -15,9 +16,8 @@ use Rattle.rle.specs.RunLength.{runs_in, counts_length}
 use Rattle.dict.specs.Dictionary.{key_length, entries_in}
 use Rattle.dict.proofs.Parts.{length-key-part, length-entries-part}
 use Rattle.format.specs.declared.Encoding.TheVariants.{Dictionary}
-use Rattle.format.specs.declared.Column.TheVariants.{Of}
 use Rattle.format.specs.Opening.{column_number, rows_of}
-use Rattle.format.specs.Blocks.{block_of, cut, stored_row, stored_form}
+use Rattle.format.specs.Blocks.{block_of, cut, stored_row, stored_form, column}
 use Rattle.format.specs.Sizes.{accepted}
 use Rattle.format.proofs.Sound.{SoundParts, rules-told}
 use Rattle.block_laws.proofs.Blocks.{our-blocks-sound, our-blocks-hold}
@@ -45,7 +45,7 @@ module _ (k : Kind) (n : ℕ) (b : List ℕ) where
   unfolding stored_form stored_row
   own-form = map_each (cut k) (λ (r : Row). r) (repaired_rows k n b) each-own ∙ map-id (repaired_rows k n b)
 
-module _ (k : Kind) (n : ℕ) (b : List ℕ) (sound : rules_but_15 (Of k Dictionary) n b ≡ 0) where
+module _ (k : Kind) (n : ℕ) (b : List ℕ) (sound : rules_but_15 (Some (column k Dictionary)) n b ≡ 0) where
   met : Meets k n b
   met = rules-met k n b sound
 
@@ -85,7 +85,7 @@ module _ (k : Kind) (n : ℕ) (b : List ℕ) (sound : rules_but_15 (Of k Diction
     )
 
     -- The halves of that, each by itself.
-    pub salvaged-opens : column_number (Of k Dictionary) n (block_of k Dictionary (repaired_rows k n b)) ≡ 0
+    pub salvaged-opens : column_number (Some (column k Dictionary)) n (block_of k Dictionary (repaired_rows k n b)) ≡ 0
     salvaged-opens = gives-repaired.0
 
     pub salvaged-rows : rows_of k Dictionary n (block_of k Dictionary (repaired_rows k n b)) ≡ repaired_rows k n b

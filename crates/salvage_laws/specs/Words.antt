@@ -1,10 +1,9 @@
 -- 02 (xii), what is shown of salvaging, in its words. Each speaks of a dictionary block b of n rows of kind k that meets all rules but 15. Assumes nothing.
-use Rattle.std.specs.Prelude.{ℕ, ◌≤◌, ◌<◌, Bool, true, false, List, [], ◌↔◌, ◌≡◌, length, get_or}
+use Rattle.std.specs.Prelude.{ℕ, ◌≤◌, ◌<◌, Bool, true, false, List, [], ◌↔◌, ◌≡◌, length, get_or, Some}
 use Rattle.encode.specs.declared.Kind.{Kind}
 use Rattle.plain.specs.Rows.{Row, null}
 use Rattle.format.specs.declared.Encoding.TheVariants.{Dictionary}
-use Rattle.format.specs.declared.Column.TheVariants.{Of}
-use Rattle.format.specs.Blocks.{block_of}
+use Rattle.format.specs.Blocks.{block_of, column}
 use Rattle.format.specs.Opening.{column_number, head_of, row_at, places_of, rows_of}
 use Rattle.ranges.specs.Exactly.{Has}
 use Rattle.damaged.specs.Damaged.{is_lost, repaired_rows, lost_ranges}
@@ -34,7 +33,7 @@ abbrev pub written : Kind → ℕ → List ℕ → List ℕ
 written k n b = block_of k Dictionary (repaired_rows k n b)
 
 abbrev pub GivesRepaired : Kind → ℕ → List ℕ → Type 0
-GivesRepaired k n b = (column_number (Of k Dictionary) n (written k n b) ≡ 0) × (rows_of k Dictionary n (written k n b) ≡ repaired_rows k n b)
+GivesRepaired k n b = (column_number (Some (column k Dictionary)) n (written k n b) ≡ 0) × (rows_of k Dictionary n (written k n b) ≡ repaired_rows k n b)
 
 -- "the block is never longer than the damaged one"
 abbrev pub NeverLonger : Kind → ℕ → List ℕ → Type 0

@@ -1,11 +1,10 @@
 -- 02 (xii): the block that our builder gives for the repaired rows of a dictionary block, and the ranges of rows that changed, as one call. Assumes nothing.
-use Rattle.std.specs.Prelude.{ℕ, zero, suc, Bool, ◌||◌, List, [], ◌∷◌, map, ltb, length}
+use Rattle.std.specs.Prelude.{ℕ, zero, suc, Bool, ◌||◌, List, [], ◌∷◌, map, ltb, length, Option, Some, None}
 use Rattle.limits.specs.Refusals.{ROOM}
 use Rattle.area.specs.Area.{over}
 use Rattle.plain.specs.Rules.{◌if◌, first_of}
 use Rattle.format.specs.declared.Encoding.TheVariants.{Dictionary}
 use Rattle.format.specs.declared.Column.{Column}
-use Rattle.format.specs.declared.Column.TheVariants.{Of, Unknown}
 use Rattle.format.specs.Blocks.{column_of, block_of}
 use Rattle.descriptor.specs.declared.Descriptor.{Descriptor}
 use Rattle.ranges.specs.Ranges.{Range}
@@ -13,9 +12,9 @@ use Rattle.damaged.specs.Damaged.{described_but_15, repaired_rows, lost_ranges}
 use Rattle.salvaging.specs.declared.Salvaged.{Salvaged}
 
 -- the block that our builder gives for them
-unfoldable pub repaired_block : Column → ℕ → List ℕ → List ℕ
-repaired_block Unknown n b = []
-repaired_block (Of k e) n b = block_of k Dictionary (repaired_rows k n b)
+unfoldable pub repaired_block : Option Column → ℕ → List ℕ → List ℕ
+repaired_block None n b = []
+repaired_block (Some c) n b = block_of c.kind Dictionary (repaired_rows c.kind n b)
 
 abbrev pub salvaged_block : Descriptor → List ℕ → List ℕ
 salvaged_block d b = repaired_block (column_of d.kind d.encoding d.width) d.rows b

@@ -8,7 +8,6 @@ ghost use Rattle.damaged.specs.Taken.{Takes};
 ghost use Rattle.salvaging.specs.Mending.{Mendable, mended};
 
 use anatomy::Parts;
-use damaged::Taken;
 use descriptor::Descriptor;
 use encode::Kind;
 use limits::refusal;
@@ -45,10 +44,9 @@ pub fn salvage(
     ensures lasts_after { lasts.new ≡ (salvage_of d block.now firsts.old lasts.old out.old).lasts }
     ensures out_after { out.new ≡ (salvage_of d block.now firsts.old lasts.old out.old).out }
 {
-    let taken = damaged::take_damaged(d, block);
-    match taken {
-        Taken::Whole(p) => salvage_whole(d, p, block, firsts, lasts, out),
-        Taken::Refused(number) => refused(number),
+    match damaged::take_damaged(d, block) {
+        Ok(p) => salvage_whole(d, p, block, firsts, lasts, out),
+        Err(refusal) => refused(u8::from(refusal)),
     }
 }
 

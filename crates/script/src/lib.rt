@@ -2,7 +2,8 @@
 // input: where it has no byte, 0 is taken.
 #![tactic(auto)]
 
-ghost use Rattle.std.specs.Prelude.{◌≡◌, ◌+◌, ◌%◌, ◌^◌, take, drop, slice_index};
+ghost use Rattle.std.specs.Prelude.{◌≡◌, ◌+◌, ◌%◌, ◌^◌, take, drop, nat_le, length, slice_index};
+ghost use Rattle.std.specs.Int.{w32, w64, cast_unsigned};
 ghost use Rattle.encode.specs.Bytes.{low_first, number_of};
 ghost use Rattle.script.specs.Script.{byte_after, eight_after, taken_at};
 
@@ -19,7 +20,7 @@ pub struct Taken {
 pub fn past(at: usize, n: usize) -> usize
     ensures { result ≡ (at + n) % 2 ^ 64 }
 {
-    std::num::wrapping_add_usize(at, n)
+    at.wrapping_add(n)
 }
 
 // The byte at a place; 0 where there is none.
@@ -33,6 +34,7 @@ pub fn byte(s: &[u8], at: usize) -> u8
 }
 
 // The byte n places after a place.
+#[tactic(auto, unfolding(crate::specs::Script::byte_after))]
 fn byte_after(s: &[u8], at: usize, n: usize) -> u8
     ensures { result ≡ byte_after s.now at n }
 {
@@ -40,10 +42,11 @@ fn byte_after(s: &[u8], at: usize, n: usize) -> u8
 }
 
 // The number of the eight bytes after a place, lowest first.
+#[tactic(auto, unfolding(crate::specs::Script::eight_after, crate::specs::Script::byte_after))]
 fn eight_after(s: &[u8], at: usize) -> u64
     ensures { result ≡ number_of low_first (eight_after s.now at) }
 {
-    encode::low8([
+    encode::low::<8>([
         byte_after(s, at, 1),
         byte_after(s, at, 2),
         byte_after(s, at, 3),
@@ -56,6 +59,7 @@ fn eight_after(s: &[u8], at: usize) -> u64
 }
 
 // A number below 255 is one byte; any other is the byte 255 and eight bytes, lowest first.
+#[tactic(auto, unfolding(crate::specs::Script::taken_at))]
 pub fn number(s: &[u8], at: usize) -> Taken
     ensures { result ≡ taken_at s.now at }
 {
@@ -72,8 +76,8 @@ pub fn number(s: &[u8], at: usize) -> Taken
     }
 }
 
-// The first n bytes, or all if there are fewer.
-pub fn first(s: &[u8], n: usize) -> &[u8]
+// The first n of a slice, or all if there are fewer.
+pub fn first<T>(s: &[T], n: usize) -> &[T]
     ensures { result.now ≡ take n s.now }
 {
     if s.len() <= n {
@@ -92,36 +96,161 @@ pub fn rest(s: &[u8], at: usize) -> &[u8]
     &s[at..]
 }
 
+// ---- the input as it is taken apart, from its first byte on
+
+// All of it, and the place where it goes on.
+#[derive(Clone, Copy)]
+pub struct Input<'a> {
+    pub bytes: &'a [u8],
+    pub at: usize,
+}
+
+impl<'a> Input<'a> {
+    pub fn new(bytes: &'a [u8]) -> Input<'a>
+        ensures bytes { result.bytes.now ≡ bytes.now }
+        ensures at { result.at ≡ 0 }
+    {
+        Input { bytes, at: 0 }
+    }
+
+    // Whether nothing is left of it.
+    pub fn is_done(&self) -> bool
+        ensures { result ≡ nat_le (length self.now.bytes.now) self.now.at }
+    {
+        self.bytes.len() <= self.at
+    }
+
+    pub fn byte(&mut self) -> u8
+        ensures value { result ≡ slice_index self.old.bytes.now self.old.at }
+        ensures at { self.new.at ≡ (self.old.at + 1) % 2 ^ 64 }
+        ensures bytes { self.new.bytes.now ≡ self.old.bytes.now }
+    {
+        let b = byte(self.bytes, self.at);
+        self.at = past(self.at, 1);
+        b
+    }
+
+    pub fn number(&mut self) -> usize
+        ensures value { result ≡ (taken_at self.old.bytes.now self.old.at).value }
+        ensures at { self.new.at ≡ (taken_at self.old.bytes.now self.old.at).next }
+        ensures bytes { self.new.bytes.now ≡ self.old.bytes.now }
+    {
+        let taken = number(self.bytes, self.at);
+        self.at = taken.next;
+        taken.value
+    }
+
+    // The next n bytes, fewer at its end.
+    pub fn part(&mut self, n: usize) -> &'a [u8]
+        ensures value { result.now ≡ take n (drop self.old.at self.old.bytes.now) }
+        ensures at { self.new.at ≡ (self.old.at + n) % 2 ^ 64 }
+        ensures bytes { self.new.bytes.now ≡ self.old.bytes.now }
+    {
+        let part = first(rest(self.bytes, self.at), n);
+        self.at = past(self.at, n);
+        part
+    }
+}
+
 // ---- writing
 
 pub fn say(text: &[u8]) {
     io::write_all(1, text);
 }
 
+// A number as it is shown: a signed one by its two's complement.
+pub trait Shown: Copy {
+    fn bits(self) -> u64;
+}
+
+impl Shown for u8 {
+    fn bits(self) -> u64
+        ensures { result ≡ self }
+    {
+        u64::from(self)
+    }
+}
+
+impl Shown for bool {
+    fn bits(self) -> u64 {
+        u64::from(self)
+    }
+}
+
+impl Shown for u32 {
+    fn bits(self) -> u64
+        ensures { result ≡ self }
+    {
+        u64::from(self)
+    }
+}
+
+impl Shown for u64 {
+    fn bits(self) -> u64
+        ensures { result ≡ self }
+    {
+        self
+    }
+}
+
+impl Shown for usize {
+    fn bits(self) -> u64
+        ensures { result ≡ self }
+    {
+        self as u64
+    }
+}
+
+impl Shown for i32 {
+    fn bits(self) -> u64
+        ensures { result ≡ cast_unsigned w32 self }
+    {
+        u64::from(self.cast_unsigned())
+    }
+}
+
+impl Shown for i64 {
+    fn bits(self) -> u64
+        ensures { result ≡ cast_unsigned w64 self }
+    {
+        self.cast_unsigned()
+    }
+}
+
 // A number in hex, behind a space.
-pub fn show(n: u64) {
+pub fn show<T: Shown>(n: T) {
     say(b" ");
-    io::print_hex(1, n, 1);
+    io::print_hex(1, n.bits(), 1);
 }
 
-pub fn show_size(n: usize) {
-    show(n as u64);
-}
-
+// A byte as a number.
 pub fn show_byte(n: u8) {
-    show(n as u64);
+    show(n);
 }
 
-// A byte in hex, by two digits; bytes.
-fn show_digits(b: u8) {
-    io::print_hex(1, b as u64, 2);
+// Numbers, one after another.
+pub fn show_each<T: Shown>(s: &[T]) {
+    for n in s {
+        show(*n);
+    }
 }
 
+// Their sum, and the sum of such sums from the first up to each, which tells their places too. Both wrap.
+pub fn show_sums<T: Shown>(s: &[T]) {
+    let mut sum: u64 = 0;
+    let mut sums: u64 = 0;
+    for n in s {
+        sum = sum.wrapping_add(n.bits());
+        sums = sums.wrapping_add(sum);
+    }
+    show(sum);
+    show(sums);
+}
+
+// Bytes in hex, by two digits each.
 pub fn show_bytes(s: &[u8]) {
-    let mut i = 0;
-    while i < s.len() {
-        show_digits(s[i]);
-        i += 1;
+    for b in s {
+        io::print_hex(1, u64::from(*b), 2);
     }
 }
 
@@ -129,6 +258,6 @@ pub fn show_bytes(s: &[u8]) {
 pub fn refused(number: u8) {
     if number != 0 {
         say(b" refused");
-        show_byte(number);
+        show(number);
     }
 }

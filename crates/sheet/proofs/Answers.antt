@@ -1,20 +1,17 @@
 -- What opening a column and its part come to, by the number of the file and the entry. Assumes nothing.
 use Prim.Native.Nat.{ℕ, zero, suc, ◌+◌, ◌-◌, ◌≤◌, ◌<◌}
 use native.Mathlib.Omega.{arith}
-use mathlib.Core.Bool.{true, false}
-use mathlib.Core.Path.{◌≡◌, refl, sym, ap, ◌∙◌}
+use mathlib.Core.Path.{◌≡◌, refl, ap, ◌∙◌}
 use mathlib.Core.List.{List, []}
-use lib.ListN.{length, take, drop}
+use lib.ListN.{take, drop}
 use borrow.Author.Tests.{eq-eqb, ne_eqb}
+use Rattle.std.specs.Prelude.{Result, Ok, Err}
 use Rattle.block.specs.declared.Reader.{Reader}
-use Rattle.block.specs.declared.Opened.{Opened}
-use Rattle.block.specs.declared.Opened.TheVariants.{Open, Refused}
 use Rattle.block.specs.declared.Opening.{Opening}
 use Rattle.block.specs.Reading.{no_reader, opening_of}
 use Rattle.descriptor.specs.declared.Descriptor.{Descriptor}
 use Rattle.descriptor.specs.Descriptor.{described_opened}
 use Rattle.descriptor.proofs.Openings.{refused-some}
-use Rattle.sheet.specs.declared.Found.{Found}
 use Rattle.sheet.specs.Sheet.{entry_at, descriptor_in, offset_in, length_in, named_by, sheet_number, opened_in, column_opened, found, found_by, column_found, column_part}
 
 -- the bytes from one place to another
@@ -24,7 +21,7 @@ between from len f = let e : from + len - from ≡ len = omega arith in rw e
 module _ (f : List ℕ) (j : ℕ) where
   -- ---- the file or the entry is refused
   module _ {n : ℕ} (told : n ≡ sheet_number f j) (refused : 0 < n) where
-    opened-as : (m : ℕ) (d : Descriptor) (b : List ℕ) → 0 < m → opened_in m d b ≡ Refused m
+    opened-as : (m : ℕ) (d : Descriptor) (b : List ℕ) → 0 < m → opened_in m d b ≡ Err m
     unfolding opened_in
     opened-as zero d b h = absurd (omega arith)
     opened-as (suc m) d b h = refl
@@ -46,18 +43,18 @@ module _ (f : List ℕ) (j : ℕ) where
     bytes-named : take (from + len - from) (drop from f) ≡ named_by (entry_at j f) f
     bytes-named = between from len f ∙ rw (from-read, len_read)
 
-    column-opened : {o : Opened} → o ≡ described_opened d (take (from + len - from) (drop from f)) → o ≡ column_opened f j
+    column-opened : {o : Result Reader ℕ} → o ≡ described_opened d (take (from + len - from) (drop from f)) → o ≡ column_opened f j
     unfolding opened_in
     column-opened e = rw zero-told (e ∙ ap (described_opened d) bytes-named ∙ ap (λ (x : Descriptor). described_opened x (named_by (entry_at j f) f)) d-read)
 
-    by_number : (x : Opened) {o : Opening} → o ≡ opening_of x → ((m : ℕ) → x ≡ Refused m → 0 < m)
+    by_number : (x : Result Reader ℕ) {o : Opening} → o ≡ opening_of x → ((m : ℕ) → x ≡ Err m → 0 < m)
         → (o.number ≤ 0 → found 0 from len o.reader ≡ found_by x from len) × (0 < o.number → found o.number 0 0 no_reader ≡ found_by x from len)
     unfolding opening_of found_by
-    by_number (Open r) q some = rw q (λ h. refl, λ h. absurd (omega arith))
-    by_number (Refused m) q some = let p = some m refl in rw q (λ h. absurd (omega arith), λ h. refl)
+    by_number (Ok r) q some = rw q (λ h. refl, λ h. absurd (omega arith))
+    by_number (Err m) q some = let p = some m refl in rw q (λ h. absurd (omega arith), λ h. refl)
 
     module _ {o : Opening} (e : o ≡ opening_of (described_opened d (take (from + len - from) (drop from f)))) where
-      abbrev x : Opened
+      abbrev x : Result Reader ℕ
       x = described_opened d (take (from + len - from) (drop from f))
 
       placed : found_by x from len ≡ column_found f j

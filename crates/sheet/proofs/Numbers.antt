@@ -1,17 +1,20 @@
 -- Which number of `sheet_number` the tests of `number_of` lead to, and what a file and an entry that none refuses are like. Assumes nothing.
 use Prim.Native.Nat.{ℕ, ◌+◌, ◌≤◌, ◌<◌}
 use native.Mathlib.Omega.{arith}
-use mathlib.Core.Bool.{false}
-use mathlib.Core.Path.{◌≡◌}
+use mathlib.Core.Bool.{true, false, false≢true}
+use mathlib.Core.Path.{◌≡◌, sym, ◌∙◌}
 use mathlib.Core.List.{List}
 use lib.Dec.{ltb, leb, eqb}
 use lib.ListN.{length}
 use borrow.Author.Tests.{lt-ltb, le-ltb, le-leb, lt-leb, eq-eqb, ne_eqb, ltb-false, leb-false, eqb-false}
 use Rattle.limits.specs.Limits.{MOST_FILE, MOST_COLUMNS}
-use Rattle.limits.specs.Refusals.{LIMIT, NO_COLUMN, SHEET, OUTSIDE}
+use Rattle.std.specs.Prelude.{Result, Ok, Err, is_err}
+use Rattle.limits.specs.declared.refusal.Refusal.{Refusal}
+use Rattle.limits.specs.Refusals.{LIMIT, NO_COLUMN, SHEET, OUTSIDE, refusal_number, number_in}
 use Rattle.plain.specs.Rules.{◌if◌, first_of}
 use Rattle.plain.proofs.Rules.{kept, whole}
 use Rattle.sheet.specs.Sheet.{columns_in, directory_end, entry_at, offset_in, length_in, sheet_number}
+use Rattle.limits.proofs.Refused.{refusal-above}
 
 module _ (f : List ℕ) (j : ℕ) where
   -- ---- the tests, in order
@@ -117,3 +120,18 @@ none-refuses f j z =
       behind = ltb-false _ _ (whole OUTSIDE _ (omega arith) g.0);
       inside = ltb-false _ _ (whole OUTSIDE _ (omega arith) h.0);
     }
+
+-- ---- what the outcome of `check` tells
+pub refused-told : {A : Type 0} {x : Result A Refusal} {r : Refusal} (n m : ℕ) → number_in x ≡ m → x ≡ Err r → n ≡ refusal_number r → (n ≡ m) × (0 < n)
+refused-told {r = r} n m told e q = (q ∙ (rw e at told), omega (arith, q, refusal-above r))
+
+pub done-told : {A : Type 0} {x : Result A Refusal} {u : A} {m : ℕ} → number_in x ≡ m → x ≡ Ok u → m ≡ 0
+done-told told e = sym (rw e at told)
+
+pub none-told : {A : Type 0} (x : Result A Refusal) {m : ℕ} → number_in x ≡ m → is_err x ≡ false → m ≡ 0
+none-told (Ok u) told e = sym told
+none-told (Err r) told e = absurd (false≢true (sym e))
+
+pub some-told : {A : Type 0} (x : Result A Refusal) {m : ℕ} → number_in x ≡ m → is_err x ≡ true → 0 < m
+some-told (Ok u) told e = absurd (false≢true e)
+some-told (Err r) told e = omega (arith, told, refusal-above r)

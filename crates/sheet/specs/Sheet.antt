@@ -1,13 +1,11 @@
 -- 02 (ix): a sheet file of many columns, and one of them opened. First byte: the number of columns. Then 16 bytes a column. Then whatever follows: the
 -- blocks lie where the entries say. Only the column's own entry and block are looked at. Assumes nothing.
-use Rattle.std.specs.Prelude.{ℕ, zero, suc, ◌+◌, ◌*◌, cond, List, [], ◌∷◌, ltb, leb, eqb, length, get_or, take, drop}
+use Rattle.std.specs.Prelude.{ℕ, zero, suc, ◌+◌, ◌*◌, cond, List, [], ◌∷◌, ltb, leb, eqb, length, get_or, take, drop, Result, Ok, Err}
 use Rattle.limits.specs.Limits.{MOST_FILE, MOST_COLUMNS}
 use Rattle.limits.specs.Refusals.{LIMIT, NO_COLUMN, SHEET, OUTSIDE}
 use Rattle.encode.specs.Bytes.{high-first, number_of}
 use Rattle.plain.specs.Rules.{◌if◌, first_of}
 use Rattle.block.specs.declared.Reader.{Reader}
-use Rattle.block.specs.declared.Opened.{Opened}
-use Rattle.block.specs.declared.Opened.TheVariants.{Open, Refused}
 use Rattle.block.specs.Reading.{no_reader}
 use Rattle.descriptor.specs.declared.Descriptor.{Descriptor}
 use Rattle.descriptor.specs.Descriptor.{descriptor_of, described_opened}
@@ -51,20 +49,20 @@ sheet_number f j = first_of (
     ∷ OUTSIDE if ltb (length f) (offset_in (entry_at j f) + length_in (entry_at j f))
     ∷ [])
 
-unfoldable pub opened_in : ℕ → Descriptor → List ℕ → Opened
+unfoldable pub opened_in : ℕ → Descriptor → List ℕ → Result Reader ℕ
 opened_in zero d b = described_opened d b
-opened_in (suc e) d b = Refused (suc e)
+opened_in (suc e) d b = Err (suc e)
 
-abbrev pub column_opened : List ℕ → ℕ → Opened
+abbrev pub column_opened : List ℕ → ℕ → Result Reader ℕ
 column_opened f j = opened_in (sheet_number f j) (descriptor_in (entry_at j f)) (named_by (entry_at j f) f)
 
 -- the answer, with the place of the block; beside a refusal nothing stands
 abbrev pub found : ℕ → ℕ → ℕ → Reader → Found
 found e from len r = record { number = e; from = from; len = len; reader = r }
 
-unfoldable pub found_by : Opened → ℕ → ℕ → Found
-found_by (Open r) from len = found 0 from len r
-found_by (Refused e) from len = found e 0 0 no_reader
+unfoldable pub found_by : Result Reader ℕ → ℕ → ℕ → Found
+found_by (Ok r) from len = found 0 from len r
+found_by (Err e) from len = found e 0 0 no_reader
 
 abbrev pub column_found : List ℕ → ℕ → Found
 column_found f j = found_by (column_opened f j) (offset_in (entry_at j f)) (length_in (entry_at j f))

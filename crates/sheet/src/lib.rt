@@ -3,6 +3,7 @@
 #![tactic(auto)]
 
 ghost use Rattle.std.specs.Prelude.{◌≡◌, ◌+◌, ◌≤◌, ◌<◌, ◌^◌, length, take, drop};
+ghost use Rattle.limits.specs.Refusals.{number_in};
 ghost use Rattle.encode.specs.Bytes.{high-first, number_of};
 ghost use Rattle.block.specs.Reading.{no_reader};
 ghost use Rattle.descriptor.specs.Descriptor.{descriptor_of};
@@ -10,7 +11,7 @@ ghost use Rattle.sheet.specs.Sheet.{directory_end, entry_at, descriptor_in, offs
 
 use block::Reader;
 use descriptor::Descriptor;
-use limits::refusal;
+use limits::refusal::Refusal;
 
 // What opening a column answers: 0, where its block lies in the file and a reader for it; or a refusal, no place, and the record that
 // every call refuses.
@@ -35,9 +36,8 @@ struct Entry {
 pub fn open(file: &[u8], j: usize) -> Found
     ensures { result ≡ column_found file.now j }
 {
-    let number = number_of(file, j);
-    if number != 0 {
-        return none(number);
+    if let Err(refusal) = check(file, j) {
+        return none(u8::from(refusal));
     }
     let e = entry_at(file, j);
     let from = e.from;
@@ -59,8 +59,7 @@ pub fn open(file: &[u8], j: usize) -> Found
 pub fn part(file: &[u8], j: usize) -> &[u8]
     ensures { result.now ≡ column_part file.now j }
 {
-    let number = number_of(file, j);
-    if number != 0 {
+    if check(file, j).is_err() {
         return &file[..0];
     }
     let e = entry_at(file, j);
@@ -81,35 +80,35 @@ fn none(number: u8) -> Found
 }
 
 // What the file, the column and its entry are refused as, in order; the block is not looked at.
-fn number_of(file: &[u8], j: usize) -> u8
-    ensures { result ≡ sheet_number file.now j }
+fn check(file: &[u8], j: usize) -> Result<(), Refusal>
+    ensures { number_in result ≡ sheet_number file.now j }
 {
     let n = file.len();
     if limits::MOST_FILE < n {
-        return refusal::LIMIT;
+        return Err(Refusal::Limit);
     }
     if n == 0 {
-        return refusal::SHEET;
+        return Err(Refusal::Sheet);
     }
     let columns = file[0] as usize;
     if limits::MOST_COLUMNS < columns {
-        return refusal::SHEET;
+        return Err(Refusal::Sheet);
     }
     let end = 1 + 16 * columns;
     if n < end {
-        return refusal::SHEET;
+        return Err(Refusal::Sheet);
     }
     if columns <= j {
-        return refusal::NO_COLUMN;
+        return Err(Refusal::NoColumn);
     }
     let e = entry_at(file, j);
     if e.from < end {
-        return refusal::OUTSIDE;
+        return Err(Refusal::Outside);
     }
     if n < e.from + e.len {
-        return refusal::OUTSIDE;
+        return Err(Refusal::Outside);
     }
-    0
+    Ok(())
 }
 
 fn entry_at(file: &[u8], j: usize) -> Entry
@@ -138,5 +137,5 @@ fn four(file: &[u8], at: usize) -> usize
     requires { at + 4 ≤ length file.now }
     ensures { (result ≡ number_of high-first (take 4 (drop at file.now))) × (result < 2 ^ 32) }
 {
-    encode::high4(plain::item(file, at, 4)) as usize
+    encode::high::<4>(plain::item(file, at, 4)) as usize
 }

@@ -7,10 +7,9 @@ use mathlib.Core.Path.{◌≡◌, refl, sym, ap, ◌∙◌}
 use lib.Dec.{eqb}
 use lib.ListN.{take, drop}
 use borrow.Author.Tests.{eq-eqb, eqb-true}
+use Rattle.std.specs.Prelude.{Result, Ok, Err}
 use Rattle.limits.specs.Refusals.{COLUMN}
 use Rattle.block.specs.declared.Reader.{Reader}
-use Rattle.block.specs.declared.Opened.{Opened}
-use Rattle.block.specs.declared.Opened.TheVariants.{Open, Refused}
 use Rattle.block.specs.Reading.{opened, no_reader}
 use Rattle.descriptor.specs.declared.Descriptor.{Descriptor}
 use Rattle.descriptor.specs.Descriptor.{described_opened}
@@ -23,18 +22,18 @@ use Rattle.sheet_laws.specs.Column.{placed}
 -- ---- a block opened by its descriptor
 module _ (d : Descriptor) (b : List ℕ) where
   -- it is opened as its other fields say
-  pub opened-fields : (r : Reader) → described_opened d b ≡ Open r → opened d.kind d.encoding d.width d.rows b ≡ Open r
+  pub opened-fields : (r : Reader) → described_opened d b ≡ Ok r → opened d.kind d.encoding d.width d.rows b ≡ Ok r
   unfolding described_opened
   opened-fields r q = go (eqb d.zero 0) q
     where
-      go : (t : Bool) → cond t (opened d.kind d.encoding d.width d.rows b) (Refused COLUMN) ≡ Open r
-          → opened d.kind d.encoding d.width d.rows b ≡ Open r
+      go : (t : Bool) → cond t (opened d.kind d.encoding d.width d.rows b) (Err COLUMN) ≡ Ok r
+          → opened d.kind d.encoding d.width d.rows b ≡ Ok r
       go true e = e
       go false e = let z : ◌≡◌ {A = ℕ} 0 1 = cc in absurd (omega arith)
 
 -- ---- the two cases
 pub data Case (f : List ℕ) (j : ℕ) : Type 0 where
-  opens : sheet_number f j ≡ 0 → (r : Reader) → described_opened (descriptor_in (entry_at j f)) (named_by (entry_at j f) f) ≡ Open r
+  opens : sheet_number f j ≡ 0 → (r : Reader) → described_opened (descriptor_in (entry_at j f)) (named_by (entry_at j f) f) ≡ Ok r
       → column_found f j ≡ found 0 (offset_in (entry_at j f)) (length_in (entry_at j f)) r → Case f j
   refuses : (e : ℕ) → 0 < e → column_found f j ≡ found e 0 0 no_reader → Case f j
 
@@ -45,10 +44,10 @@ module _ (f : List ℕ) (j : ℕ) where
   abbrev b : List ℕ
   b = named_by (entry_at j f) f
 
-  by-opening : (o : Opened) → described_opened d b ≡ o → sheet_number f j ≡ 0 → Case f j
+  by-opening : (o : Result Reader ℕ) → described_opened d b ≡ o → sheet_number f j ≡ 0 → Case f j
   unfolding found_by opened_in
-  by-opening (Open r) q z = opens z r q (rw (z, q))
-  by-opening (Refused e) q z = refuses e (refused-some d b e q) (rw (z, q))
+  by-opening (Ok r) q z = opens z r q (rw (z, q))
+  by-opening (Err e) q z = refuses e (refused-some d b e q) (rw (z, q))
 
   pub case : Case f j
   case = go (sheet_number f j) refl

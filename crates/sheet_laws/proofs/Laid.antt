@@ -16,7 +16,6 @@ use Rattle.encode.proofs.RoundTrip.{number-bytes}
 use Rattle.plain.specs.Each.{Each}
 use Rattle.plain.specs.Plain.{joined}
 use Rattle.format.specs.Opening.{open_number}
-use Rattle.block.specs.declared.Opened.{Opened}
 use Rattle.block.specs.Reading.{opened_by, opened}
 use Rattle.block_laws.proofs.Lists.{each_at}
 use Rattle.descriptor.specs.declared.Descriptor.{Descriptor}

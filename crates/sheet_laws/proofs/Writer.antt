@@ -1,5 +1,6 @@
 -- 02 (ix), the writer: a file that it wrote opens at every column as that column's block, and at no other; the rows read back; and a column's bytes tell
 -- the stored form of its rows. Assumes nothing.
+use Rattle.std.specs.Prelude.{Some}
 use Prim.Native.Nat.{ℕ, ◌≤◌, ◌<◌}
 use native.Mathlib.Omega.{arith}
 use mathlib.Core.Bool.{true}
@@ -10,12 +11,9 @@ use Rattle.limits.specs.Refusals.{NO_COLUMN}
 use Rattle.encode.specs.declared.Kind.{Kind}
 use Rattle.plain.specs.Rows.{Row}
 use Rattle.format.specs.declared.Encoding.{Encoding}
-use Rattle.format.specs.declared.Column.TheVariants.{Of}
-use Rattle.format.specs.Blocks.{column_of, stored_form}
+use Rattle.format.specs.Blocks.{column_of, stored_form, column as pair}
 use Rattle.format.specs.Sizes.{accepted}
 use Rattle.block.specs.declared.Reader.{Reader}
-use Rattle.block.specs.declared.Opened.{Opened}
-use Rattle.block.specs.declared.Opened.TheVariants.{Open}
 use Rattle.block.specs.Reading.{opened}
 use Rattle.block.specs.Calls.{Call, play}
 use Rattle.block_laws.proofs.Blocks.{our-blocks-open, our-blocks-hold}
@@ -53,7 +51,7 @@ module _ (numbers blocks out : List ℕ) (done : (write numbers blocks out).answ
   no-other-column j h = let k = rules-kept numbers blocks out done in rw (file-written numbers blocks out done) (laid-no-other cs k.few k.short j h)
 
   -- ---- a column of accepted rows
-  module _ (kind encoding width : ℕ) (k : Kind) (e : Encoding) (named : column_of kind encoding width ≡ Of k e)
+  module _ (kind encoding width : ℕ) (k : Kind) (e : Encoding) (named : column_of kind encoding width ≡ Some (pair k e))
       (j : ℕ) (there : j < length cs) (rows : List Row) (is-accepted : accepted k e rows ≡ true)
       (filed : column cs j ≡ filed_rows kind encoding width k e rows) where
     -- Any calls on it are answered exactly as the stored form of its rows asks.
@@ -66,7 +64,7 @@ module _ (numbers blocks out : List ℕ) (done : (write numbers blocks out).answ
         ∙ ap (λ (held : List Row). expected k held ds) (our-blocks-hold k e rows is-accepted)
 
 -- Two columns of one kind, width and encoding, in two files or in one, of which the same bytes are kept, hold rows of the same stored form.
-module _ (kind encoding width : ℕ) (k : Kind) (e : Encoding) (named : column_of kind encoding width ≡ Of k e) (xs ys : List Row)
+module _ (kind encoding width : ℕ) (k : Kind) (e : Encoding) (named : column_of kind encoding width ≡ Some (pair k e)) (xs ys : List Row)
     (xs-accepted : accepted k e xs ≡ true) (ys-accepted : accepted k e ys ≡ true) where
   pub same-column-same-form :
       (numbers blocks out : List ℕ) (done : (write numbers blocks out).answer.number ≡ 0) (i : ℕ) → i < length (columns_of numbers blocks)

@@ -1,12 +1,11 @@
 -- 02 (ix), what is wanted of a sheet file: calls on one of its columns, each with all that comes of it, and files that agree in that column. Assumes nothing.
-use Rattle.std.specs.Prelude.{ℕ, ◌+◌, ◌<◌, List, [], ◌∷◌, ◌≡◌, length, get_or, take, drop}
+use Rattle.std.specs.Prelude.{ℕ, ◌+◌, ◌<◌, List, [], ◌∷◌, ◌≡◌, length, get_or, take, drop, Result}
 use Rattle.encode.specs.declared.Kind.{Kind}
 use Rattle.plain.specs.Rows.{Row}
 use Rattle.format.specs.declared.Encoding.{Encoding}
 use Rattle.format.specs.Blocks.{block_of}
 use Rattle.block.specs.declared.Reader.{Reader}
 use Rattle.block.specs.declared.Left.{Left}
-use Rattle.block.specs.declared.Opened.{Opened}
 use Rattle.block.specs.Reading.{Areas, Batch, opened, read, remaining}
 use Rattle.sheet.specs.declared.Found.{Found}
 use Rattle.sheet.specs.Sheet.{columns_in, directory_end, entry_at, named_by, sheet_number, column_found, column_part}
@@ -78,7 +77,7 @@ filed_rows kind encoding width k e xs = record {
 }
 
 -- a column's block opened by itself
-abbrev pub own_opening : Filed → Opened
+abbrev pub own_opening : Filed → Result Reader ℕ
 own_opening c = opened c.descriptor.kind c.descriptor.encoding c.descriptor.width c.descriptor.rows c.block
 
 -- where its block lies: behind the directory and the blocks before it

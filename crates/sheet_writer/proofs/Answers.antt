@@ -1,9 +1,9 @@
 -- What writing comes to, by the tests that led there. Assumes nothing.
-use Prim.Native.Nat.{ℕ, zero, suc, ◌+◌, ◌/◌, ◌%◌, ◌≤◌, ◌<◌}
+use Prim.Native.Nat.{ℕ, zero, suc, ◌+◌, ◌%◌, ◌≤◌, ◌<◌}
 use native.Mathlib.Omega.{arith}
-use mathlib.Core.Bool.{true, false, not}
+use mathlib.Core.Bool.{true}
 use mathlib.Core.Path.{◌≡◌, refl, sym, ap, ◌∙◌}
-use mathlib.Core.List.{List, [], ◌∷◌, ◌++◌}
+use mathlib.Core.List.{List, [], ◌∷◌}
 use lib.Dec.{ltb, eqb}
 use lib.ListN.{length, set, take, drop}
 use lib.Seq.{sets}
@@ -13,12 +13,11 @@ use Rattle.limits.specs.Refusals.{LIMIT, ROOM, SHEET}
 use Rattle.area.specs.Area.{over}
 use Rattle.area.proofs.Laws.{sets-append, over-sets}
 use Rattle.plain.specs.Rules.{◌if◌, first_of}
-use Rattle.format.proofs.Answers.{first_one, broken-first, kept-first}
+use Rattle.format.proofs.Answers.{broken-first}
 use Rattle.sheet.specs.Sheet.{directory_end}
 use Rattle.sheet_writer.specs.declared.Written.{Written}
-use Rattle.sheet_writer.specs.declared.Summed.{Summed}
-use Rattle.sheet_writer.specs.declared.Summed.TheVariants.{Bytes, Refused}
-use Rattle.sheet_writer.specs.Writing.{filed_in, file_of, columns_lent, lent_file, blocks_number, write_number, written, Write, write_by, write}
+use Rattle.std.specs.Prelude.{Result, Ok, Err}
+use Rattle.sheet_writer.specs.Writing.{columns_lent, lent_file, blocks_number, write_number, written, Write, write_by, write}
 use Rattle.sheet_writer.specs.Lent.{lent_entries, lent_bytes, laid_out, summed_by, room_number, write_from}
 use Rattle.sheet_writer.proofs.Files.{length-lent-entries, laid_out_lem, length-laid}
 
@@ -64,12 +63,12 @@ module _ (n : ℕ) (ns bs out : List ℕ) (held : lent_bytes n ns ≤ length bs)
           (ap (written 0) (rw b (sym long)), q ∙ rw (p, b) laid)
 
 -- ---- the blocks summed
-pub bytes-told : (m bytes : ℕ) {b : ℕ} {x : Summed} → x ≡ summed_by m bytes → x ≡ Bytes b → (m ≡ 0) × (b ≡ bytes)
+pub bytes-told : (m bytes : ℕ) {b : ℕ} {x : Result ℕ ℕ} → x ≡ summed_by m bytes → x ≡ Ok b → (m ≡ 0) × (b ≡ bytes)
 unfolding summed_by
 bytes-told zero bytes p q = (refl, cc)
 bytes-told (suc m) bytes p q = let z : ◌≡◌ {A = ℕ} 0 1 = cc in absurd (omega arith)
 
-pub bad-told : (m bytes : ℕ) {e : ℕ} {x : Summed} → x ≡ summed_by m bytes → x ≡ Refused e → (m ≡ e) × (0 < e)
+pub bad-told : (m bytes : ℕ) {e : ℕ} {x : Result ℕ ℕ} → x ≡ summed_by m bytes → x ≡ Err e → (m ≡ e) × (0 < e)
 unfolding summed_by
 bad-told zero bytes p q = let z : ◌≡◌ {A = ℕ} 0 1 = cc in absurd (omega arith)
 bad-told (suc m) bytes {e} p q = let s : suc m ≡ e = cc in (s, omega arith)

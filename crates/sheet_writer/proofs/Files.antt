@@ -2,15 +2,12 @@
 use Prim.Native.Nat.{ℕ, zero, suc, ◌+◌, ◌*◌, ◌≤◌}
 use native.Mathlib.Omega.{arith}
 use mathlib.Core.Path.{◌≡◌, refl, sym, ap, ◌∙◌}
-use mathlib.Core.List.{List, [], ◌∷◌, ◌++◌}
+use mathlib.Core.List.{List, ◌++◌}
 use lib.ListN.{length, take, drop, length-append, length-drop}
 use lib.Seq.{take-add, length-take-le}
-use Rattle.encode.specs.Bytes.{high-first, big}
-use Rattle.encode.proofs.RoundTrip.{length-bytes}
 use Rattle.plain.specs.Plain.{joined}
-use Rattle.descriptor.specs.Descriptor.{packed_number, descriptor_bytes}
 use Rattle.sheet.specs.Sheet.{directory_end}
-use Rattle.sheet_writer.specs.Writing.{Filed, blocks_of, entry_of, entries_from, file_of, length_at, first_filed, filed_in, blocks_number}
+use Rattle.sheet_writer.specs.Writing.{blocks_of, entries_from, file_of, length_at, filed_in, blocks_number}
 use Rattle.sheet_writer.specs.Lent.{lent_entry, lent_entries, lent_bytes, laid_out}
 use Rattle.sheet_writer.proofs.Columns.{first-held, next-sound}
 

@@ -1,6 +1,6 @@
 -- What holds at each turn of the two loops over the columns. Assumes nothing.
 use Prim.Native.Nat.{ℕ, zero, suc, ◌+◌, ◌-◌, ◌*◌, ◌≤◌, ◌<◌}
-use native.Mathlib.Nat.{add-zero, zero-add}
+use native.Mathlib.Nat.{zero-add}
 use native.Mathlib.Omega.{arith}
 use mathlib.Core.Path.{◌≡◌, refl, sym, ap, ◌∙◌}
 use mathlib.Core.List.{List, [], ◌++◌}
@@ -11,8 +11,7 @@ use Rattle.encode.specs.Bytes.{big, in_eight}
 use Rattle.descriptor.specs.declared.Descriptor.{Descriptor}
 use Rattle.descriptor.specs.Descriptor.{descriptor_bytes}
 use Rattle.sheet.specs.Sheet.{directory_end}
-use Rattle.sheet_writer.specs.declared.Summed.{Summed}
-use Rattle.sheet_writer.specs.declared.Summed.TheVariants.{Bytes, Refused}
+use Rattle.std.specs.Prelude.{Ok, Err}
 use Rattle.sheet_writer.specs.Writing.{length_at, first_filed, first_number, blocks_number}
 use Rattle.sheet_writer.specs.Lent.{lent_entry, lent_entries, lent_bytes, summed_by}
 use Rattle.sheet_writer.proofs.Columns.{length-lent, first-held, next-number, first-bad}
@@ -41,7 +40,7 @@ module _ {ns bs : List ℕ} {columns i at : ℕ} (f : Summing ns bs columns i at
   one_more : columns - i ≡ suc rest
   one_more = omega arith
 
-  pub summing-bad : (e : ℕ) → e ≡ first_number (drop (5 * i) ns) (drop at bs) → 0 < e → Refused e ≡ summed_by (blocks_number columns ns bs) (lent_bytes columns ns)
+  pub summing-bad : (e : ℕ) → e ≡ first_number (drop (5 * i) ns) (drop at bs) → 0 < e → Err e ≡ summed_by (blocks_number columns ns bs) (lent_bytes columns ns)
   unfolding summed_by
   summing-bad zero q h = absurd (omega arith)
   summing-bad (suc e) q h =
@@ -78,14 +77,14 @@ module _ {ns bs : List ℕ} {columns i at : ℕ} (f : Summing ns bs columns i at
               ∙ omega (arith, f.bytes, m, len-first);
         }
 
-pub summing-end : {ns bs : List ℕ} {columns i at : ℕ} → Summing ns bs columns i at → columns ≤ i → Bytes at ≡ summed_by (blocks_number columns ns bs) (lent_bytes columns ns)
+pub summing-end : {ns bs : List ℕ} {columns i at : ℕ} → Summing ns bs columns i at → columns ≤ i → Ok at ≡ summed_by (blocks_number columns ns bs) (lent_bytes columns ns)
 unfolding summed_by blocks_number lent_bytes
 summing-end {ns} {bs} {columns} {i} {at} f h =
     let e : columns - i ≡ 0 = omega arith in
     let n : blocks_number columns ns bs ≡ 0 = sym f.number ∙ rw e in
     let t : at + 0 ≡ lent_bytes columns ns = rw e at f.bytes in
     let b : at ≡ lent_bytes columns ns = omega (arith, t) in
-    rw n (ap Bytes b)
+    rw n (ap Ok b)
 
 -- ---- the entries written
 pub record Entering (ns : List ℕ) (columns : ℕ) (out₀ out : List ℕ) (i at : ℕ) : Type 0 where

@@ -1,13 +1,11 @@
 -- For the code: the entries and the length of the blocks, from the five numbers of each column alone. Assumes nothing.
-use Rattle.std.specs.Prelude.{ℕ, zero, suc, ◌+◌, List, [], ◌∷◌, ◌++◌, ltb, length, take, drop}
+use Rattle.std.specs.Prelude.{ℕ, zero, suc, ◌+◌, List, [], ◌∷◌, ◌++◌, ltb, length, take, drop, Result, Ok, Err}
 use Rattle.limits.specs.Limits.{MOST_FILE}
 use Rattle.limits.specs.Refusals.{LIMIT, ROOM}
 use Rattle.encode.specs.Bytes.{big}
 use Rattle.plain.specs.Rules.{◌if◌, first_of}
 use Rattle.descriptor.specs.Descriptor.{descriptor_bytes}
 use Rattle.sheet.specs.Sheet.{directory_end}
-use Rattle.sheet_writer.specs.declared.Summed.{Summed}
-use Rattle.sheet_writer.specs.declared.Summed.TheVariants.{Bytes, Refused}
 use Rattle.sheet_writer.specs.Writing.{length_at, first_filed, Write, write_by}
 
 -- the entry of the first column, whose block is to lie at a place
@@ -25,9 +23,9 @@ lent_bytes zero numbers = 0
 lent_bytes (suc n) numbers = length_at numbers + lent_bytes n (drop 5 numbers)
 
 -- that length, or the number of the first that is bad
-unfoldable pub summed_by : ℕ → ℕ → Summed
-summed_by zero bytes = Bytes bytes
-summed_by (suc e) bytes = Refused (suc e)
+unfoldable pub summed_by : ℕ → ℕ → Result ℕ ℕ
+summed_by zero bytes = Ok bytes
+summed_by (suc e) bytes = Err (suc e)
 
 -- the file, and what is written of it
 abbrev pub laid_out : ℕ → List ℕ → List ℕ → List ℕ

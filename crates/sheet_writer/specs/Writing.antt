@@ -1,6 +1,6 @@
 -- 02 (ix): a sheet file written in one call. Lent are five numbers a column, kind, encoding, width, rows and its block's length, and the blocks one after
 -- the other. Assumes nothing.
-use Rattle.std.specs.Prelude.{ℕ, zero, suc, ◌+◌, ◌/◌, ◌%◌, cond, not, List, [], ◌∷◌, ◌++◌, ltb, eqb, length, get_or, take, drop}
+use Rattle.std.specs.Prelude.{ℕ, zero, suc, ◌+◌, ◌/◌, ◌%◌, not, List, [], ◌∷◌, ◌++◌, ltb, eqb, length, get_or, take, drop}
 use Rattle.limits.specs.Limits.{MOST_FILE, MOST_COLUMNS}
 use Rattle.limits.specs.Refusals.{LIMIT, ROOM, CUT, SHEET}
 use Rattle.area.specs.Area.{over}

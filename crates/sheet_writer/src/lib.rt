@@ -2,6 +2,7 @@
 #![tactic(auto)]
 
 ghost use Rattle.std.specs.Prelude.{◌≡◌, [], ◌+◌, ◌*◌, ◌≤◌, length, drop};
+ghost use Rattle.limits.specs.Refusals.{refusal_number, number_in, by_number};
 ghost use Rattle.std.proofs.lemmas.List.Edits.{sets};
 ghost use Rattle.limits.specs.Limits.{MOST_COLUMNS};
 ghost use Rattle.sheet.specs.Sheet.{directory_end};
@@ -9,7 +10,7 @@ ghost use Rattle.sheet_writer.specs.Writing.{written, first_filed, first_number,
 ghost use Rattle.sheet_writer.specs.Lent.{lent_entry, lent_entries, lent_bytes, summed_by, write_from};
 
 use descriptor::Descriptor;
-use limits::refusal;
+use limits::refusal::Refusal;
 
 // What writing answers: the file's length, or a refusal.
 #[repr(C)]
@@ -17,13 +18,6 @@ use limits::refusal;
 pub struct Written {
     pub number: u8,
     pub len: usize,
-}
-
-// What the blocks come to: their length, or the refusal of the first that is bad.
-#[derive(Clone, Copy)]
-enum Summed {
-    Bytes(usize),
-    Refused(u8),
 }
 
 // Writes a file of columns that are lent as five numbers each, kind, encoding, width, rows and the length of its block, and their blocks one
@@ -34,57 +28,55 @@ pub fn write(numbers: &[usize], blocks: &[u8], out: &mut [u8]) -> Written
 {
     let columns = numbers.len() / 5;
     if limits::MOST_COLUMNS < columns {
-        return refused(refusal::SHEET);
+        return refused(Refusal::Sheet);
     }
     if numbers.len() % 5 != 0 {
-        return refused(refusal::SHEET);
+        return refused(Refusal::Sheet);
     }
-    let summed = sum(numbers, columns, blocks);
-    match summed {
-        Summed::Bytes(bytes) => put_file(numbers, columns, blocks, bytes, out),
-        Summed::Refused(number) => refused(number),
+    match sum(numbers, columns, blocks) {
+        Ok(bytes) => put_file(numbers, columns, blocks, bytes, out),
+        Err(refusal) => refused(refusal),
     }
 }
 
-fn refused(number: u8) -> Written
-    ensures { result ≡ written number 0 }
+fn refused(refusal: Refusal) -> Written
+    ensures { result ≡ written (refusal_number refusal) 0 }
 {
-    Written { number, len: 0 }
+    Written {
+        number: u8::from(refusal),
+        len: 0,
+    }
 }
 
 // ---- the blocks
 
-// Each column in order: whether the lent bytes hold its block, and whether that is sound.
-fn sum(numbers: &[usize], columns: usize, blocks: &[u8]) -> Summed
+// The length of the blocks, or the refusal of the first that is bad. Each column in order: whether the lent bytes hold its block, and
+// whether that is sound.
+fn sum(numbers: &[usize], columns: usize, blocks: &[u8]) -> Result<usize, Refusal>
     requires { 5 * columns ≤ length numbers.now }
-    ensures { result ≡ summed_by (blocks_number columns numbers.now blocks.now) (lent_bytes columns numbers.now) }
+    ensures { by_number result ≡ summed_by (blocks_number columns numbers.now blocks.now) (lent_bytes columns numbers.now) }
 {
-    let mut i = 0;
     let mut at = 0;
-    while i < columns {
-        let number = number_of(numbers, 5 * i, blocks, at);
-        if number != 0 {
-            return Summed::Refused(number);
-        }
+    for i in 0..columns {
+        check(numbers, 5 * i, blocks, at)?;
         at += numbers[5 * i + 4];
-        i += 1;
     }
-    Summed::Bytes(at)
+    Ok(at)
 }
 
 // One column, whose numbers lie at a place and whose block begins at another.
-fn number_of(numbers: &[usize], place: usize, blocks: &[u8], at: usize) -> u8
+fn check(numbers: &[usize], place: usize, blocks: &[u8], at: usize) -> Result<(), Refusal>
     requires { (place + 5 ≤ length numbers.now) × (at ≤ length blocks.now) }
-    ensures { result ≡ first_number (drop place numbers.now) (drop at blocks.now) }
+    ensures { number_in result ≡ first_number (drop place numbers.now) (drop at blocks.now) }
 {
     let len = numbers[place + 4];
     if blocks.len() - at < len {
-        return refusal::CUT;
+        return Err(Refusal::Cut);
     }
     let end = at + len;
     let d = descriptor_at(numbers, place);
-    let opening = block::open_by_number(d.kind, d.encoding, d.width, d.rows, &blocks[at..end]);
-    opening.number
+    block::open(d.kind, d.encoding, d.width, d.rows, &blocks[at..end])?;
+    Ok(())
 }
 
 fn descriptor_at(numbers: &[usize], place: usize) -> Descriptor
@@ -116,11 +108,11 @@ fn put_file(
 {
     let start = 1 + 16 * columns;
     if limits::MOST_FILE - start < bytes {
-        return refused(refusal::LIMIT);
+        return refused(Refusal::Limit);
     }
     let len = start + bytes;
     if out.len() < len {
-        return refused(refusal::ROOM);
+        return refused(Refusal::Room);
     }
     out[0] = columns as u8;
     put_entries(numbers, columns, out);
@@ -133,12 +125,10 @@ fn put_entries(numbers: &[usize], columns: usize, out: &mut [u8])
     requires { (5 * columns ≤ length numbers.now) × (directory_end columns + lent_bytes columns numbers.now ≤ length out.old) }
     ensures { out.new ≡ sets out.old 1 (lent_entries columns (directory_end columns) numbers.now) }
 {
-    let mut i = 0;
     let mut from = 1 + 16 * columns;
-    while i < columns {
+    for i in 0..columns {
         put_entry(numbers, 5 * i, from, out, 1 + 16 * i);
         from += numbers[5 * i + 4];
-        i += 1;
     }
 }
 
@@ -150,6 +140,6 @@ fn put_entry(numbers: &[usize], place: usize, at: usize, out: &mut [u8], to: usi
     let d = descriptor_at(numbers, place);
     let len = numbers[place + 4];
     area::put(descriptor::pack(d), 8, out, to);
-    area::put(encode::high_first4(at as u64), 4, out, to + 8);
-    area::put(encode::high_first4(len as u64), 4, out, to + 12);
+    area::put(encode::high_first::<4>(at as u64), 4, out, to + 8);
+    area::put(encode::high_first::<4>(len as u64), 4, out, to + 12);
 }

@@ -1,6 +1,5 @@
 -- Groups of short counts: sixteen that are all short, and groups one after another. Assumes nothing.
-use Prim.Native.Nat.{ℕ, zero, suc, ◌+◌, ◌-◌, ◌≤◌, ◌<◌}
-use native.Mathlib.Nat.{add-zero}
+use Prim.Native.Nat.{ℕ, ◌+◌, ◌-◌, ◌≤◌}
 use native.Mathlib.Omega.{arith}
 use mathlib.Core.Bool.{Bool, true, false, cond, ◌&&◌}
 use mathlib.Core.List.{List, [], ◌∷◌, ◌++◌}
@@ -63,22 +62,3 @@ module _ {s : List ℕ} {from runs rows n sum more : ℕ} (p : Passes s from run
     adds = rw (bytes_on, sum-append) (omega (arith, p.adds, g.adds));
     fits = omega (arith, p.fits, g.fits);
   }
-
--- ---- what the loop of `pass` keeps: the groups so far, and one more unless it found none
-pub record Grouping (s : List ℕ) (from runs rows n sum more : ℕ) : Type 0 where
-  pub so_far : Passes s from runs rows (passed n sum)
-  pub next : 0 < more → Group s (from + n) (runs - n) (rows - sum) more
-
-pub grouping-start : (s : List ℕ) (from runs rows more : ℕ) → (0 < more → Group s from runs rows more) → Grouping s from runs rows 0 0 more
-grouping-start s from runs rows more found =
-    let a : runs - 0 ≡ runs = omega arith in
-    let b : rows - 0 ≡ rows = omega arith in
-    record { so_far = passes_none s from runs rows; next = λ h. rw (add-zero from, a, b) (found h) }
-
-module _ {s : List ℕ} {from runs rows n sum more : ℕ} (g : Grouping s from runs rows n sum more) (h : 0 < more) where
-  pub one_more : Passes s from runs rows (passed (n + 16) (sum + more))
-  one_more = passes_on g.so_far (g.next h)
-
-  pub grouping-on : {again : ℕ} → (0 < again → Group s (from + (n + 16)) (runs - (n + 16)) (rows - (sum + more)) again)
-      → Grouping s from runs rows (n + 16) (sum + more) again
-  grouping-on found = record { so_far = one_more; next = found }

@@ -2,7 +2,7 @@
 // code take all of it at once.
 #![tactic(auto)]
 
-ghost use Rattle.std.specs.Prelude.{◌≡◌, ◌+◌, ◌<◌, ◌≤◌, length, take, drop};
+ghost use Rattle.std.specs.Prelude.{IfSome, ◌≡◌, ◌+◌, ◌<◌, ◌≤◌, length, take, drop};
 ghost use Rattle.shorts.specs.Shorts.{shortness, as_is, sum_by, Group, Passes};
 
 // Some counts of a byte each, and the rows of their runs.
@@ -28,10 +28,8 @@ fn count_short(s: &[u8], at: usize) -> u8
     ensures { result ≡ sum_by shortness (take 16 (drop at s.now)) }
 {
     let mut found: u8 = 0;
-    let mut i = 0;
-    while i < 16 {
+    for i in 0..16 {
         found += one_if_short(s[at + i]);
-        i += 1;
     }
     found
 }
@@ -42,49 +40,48 @@ fn add_up(s: &[u8], at: usize) -> u32
     ensures { result ≡ sum_by as_is (take 16 (drop at s.now)) }
 {
     let mut sum: u32 = 0;
-    let mut i = 0;
-    while i < 16 {
-        sum += area::wide(s[at + i]);
-        i += 1;
+    for i in 0..16 {
+        sum += u32::from(s[at + i]);
     }
     sum
 }
 
-// The rows of the sixteen runs whose counts begin at `at`, if there are so many, each count is a byte, and the rows are at most `rows`;
-// otherwise 0.
-fn group(s: &[u8], at: usize, runs: usize, rows: usize) -> usize
-    ensures { 0 < result → Group s.now at runs rows result }
+// The rows of the sixteen runs whose counts begin at `at`, if there are so many, each count is a byte, and the rows are at most `rows`.
+#[inline(always)]
+fn group(s: &[u8], at: usize, runs: usize, rows: usize) -> Option<usize>
+    ensures { IfSome result (Group s.now at runs rows) }
 {
     if runs < 16 {
-        return 0;
+        return None;
     }
     if s.len() < 16 {
-        return 0;
+        return None;
     }
     if s.len() - 16 < at {
-        return 0;
+        return None;
     }
     if count_short(s, at) != 16 {
-        return 0;
+        return None;
     }
     let sum = add_up(s, at) as usize;
     if rows < sum {
-        return 0;
+        return None;
     }
-    sum
+    Some(sum)
 }
 
-// Passes over groups of such counts from `from` on, as long as a group more is within `runs` and `rows`.
+// Passes over groups of such counts from `from` on, as long as a group more is within `runs` and `rows`. The next group is looked for at the
+// end of a step, which lets the machine code add up its bytes at once; with the look in the loop's test it adds them one by one.
 pub fn pass(s: &[u8], from: usize, runs: usize, rows: usize) -> Passed
     ensures { Passes s.now from runs rows result }
 {
     let mut passed: usize = 0;
     let mut sum: usize = 0;
-    let mut more = group(s, from, runs, rows);
-    while 0 < more {
+    let mut next = group(s, from, runs, rows);
+    while let Some(more) = next {
         passed += 16;
         sum += more;
-        more = group(s, from + passed, runs - passed, rows - sum);
+        next = group(s, from + passed, runs - passed, rows - sum);
     }
     Passed {
         runs: passed,

@@ -95,10 +95,10 @@ fn put_char(width: usize, present: bool, item: &[u8], items: &mut [u8], at: usiz
     if present {
         let n = item.len();
         area::copy(item, 0, n, items, at);
-        area::fill_bytes(items, at + n, width - n, 0);
+        area::fill(items, at + n, width - n, 0);
         return;
     }
-    area::fill_bytes(items, at, width, 0);
+    area::fill(items, at, width, 0);
 }
 
 fn put_blob(present: bool, item: &[u8], items: &mut [u8], at: usize)

@@ -4,11 +4,10 @@
 
 ghost use Rattle.std.specs.Prelude.{◌≡◌};
 ghost use Rattle.fill.specs.Areas.{areas};
-ghost use Rattle.slow_answer.specs.Slow.{row_shown};
+ghost use Rattle.slow_answer.specs.Slow.{answer_of, row_shown};
 
 use descriptor::Descriptor;
-use format::Column;
-use limits::refusal;
+use limits::refusal::Refusal;
 use slow_answer::RowGiven;
 
 // Row `r` of a block, in the form of a read of one row.
@@ -25,25 +24,36 @@ pub fn row(
     ensures bytes_after { areas values.new flags.new ends.new bytes.new
         ≡ (row_shown d block.now r (areas values.old flags.old ends.old bytes.old)).areas }
 {
-    let number = slow_rules::open_number(d, block);
-    if number != 0 {
-        return slow_answer::without_bytes(number);
-    }
-    let column = slow_rules::column_of(d);
-    let Column::Of { kind, encoding } = column else {
-        return slow_answer::without_bytes(refusal::COLUMN);
+    slow_answer::RowGiven::from(given(d, block, r, values, flags, ends, bytes))
+}
+
+// How many bytes of char, blob or string the row has.
+fn given(
+    d: Descriptor,
+    block: &[u8],
+    r: usize,
+    values: &mut [i64],
+    flags: &mut [u8],
+    ends: &mut [u32],
+    bytes: &mut [u8],
+) -> Result<usize, Refusal>
+    ensures value { answer_of result ≡ (row_shown d block.now r (areas values.old flags.old ends.old bytes.old)).answer }
+    ensures bytes_after { areas values.new flags.new ends.new bytes.new
+        ≡ (row_shown d block.now r (areas values.old flags.old ends.old bytes.old)).areas }
+{
+    slow_rules::open_number(d, block)?;
+    let Some(column) = slow_rules::column_of(d) else {
+        return Err(Refusal::Column);
     };
     if d.rows <= r {
-        return slow_answer::without_bytes(refusal::TOO_FAR);
+        return Err(Refusal::TooFar);
     }
-    let place = slow_places::place_of(encoding, d.rows, block, r);
-    let from = place.from;
-    let to = place.to;
+    let place = slow_places::place_of(column.encoding, d.rows, block, r);
     slow_giving::give(
-        kind,
-        &block[from..to],
+        column.kind,
+        &block[place.from..place.to],
         place.items,
-        place.slot,
+        place.item,
         values,
         flags,
         ends,

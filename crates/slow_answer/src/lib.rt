@@ -2,9 +2,11 @@
 #![tactic(auto)]
 
 ghost use Rattle.std.specs.Prelude.{◌≡◌};
-ghost use Rattle.slow_answer.specs.Slow.{row_given};
+ghost use Rattle.slow_answer.specs.Slow.{answer_of};
 
-// A number, and the bytes written of char, blob and string.
+use limits::refusal::Refusal;
+
+// A number, and the bytes written of char, blob and string. C sees it: so the number stands beside the bytes.
 #[repr(C)]
 #[derive(Clone, Copy)]
 pub struct RowGiven {
@@ -12,9 +14,17 @@ pub struct RowGiven {
     pub bytes: usize,
 }
 
-// No bytes.
-pub fn without_bytes(number: u8) -> RowGiven
-    ensures { result ≡ row_given number 0 }
-{
-    RowGiven { number, bytes: 0 }
+// The bytes that were written; or a refusal's number, and no bytes.
+impl From<Result<usize, Refusal>> for RowGiven {
+    ghost from_gives = { λ given answer. answer ≡ answer_of given };
+
+    fn from(given: Result<usize, Refusal>) -> RowGiven {
+        match given {
+            Ok(bytes) => RowGiven { number: 0, bytes },
+            Err(refusal) => RowGiven {
+                number: u8::from(refusal),
+                bytes: 0,
+            },
+        }
+    }
 }

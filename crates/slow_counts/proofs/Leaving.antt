@@ -1,4 +1,5 @@
 -- The loop of `run_of`: the rows of the runs from one on, of which as many are passed as are left. Assumes nothing.
+use Rattle.std.specs.Prelude.{Option, None}
 use Prim.Native.Nat.{ℕ, suc, ◌+◌, ◌-◌, ◌≤◌, ◌<◌}
 use native.Mathlib.Numerals.{add-one}
 use native.Mathlib.Omega.{arith}
@@ -7,8 +8,7 @@ use mathlib.Core.Path.{◌≡◌, sym, ap, subst, ◌∙◌}
 use lib.ListN.{length, drop, get_or, replicate, length-append, length-replicate, get_or-replicate, get_or-append}
 use lib.Seq.{drop-drop, get_or-append-add}
 use Rattle.varint.specs.declared.Count.{Count}
-use Rattle.varint.specs.declared.Count.TheVariants.{Number, Bad}
-use Rattle.varint.specs.Varint.{count_at}
+use Rattle.varint.specs.Varint.{count_at, counted}
 use Rattle.varint.proofs.Within.{at-within}
 use Rattle.rle.specs.RunLength.{as_often, run_numbers}
 use Rattle.rle.specs.Stepping.{spot}
@@ -58,21 +58,21 @@ module _ {counts : List ℕ} {runs row left at run : ℕ} (g : Leaving counts ru
   abbrev behind : ℕ → List ℕ
   behind len = run_numbers (runs - (run + 1)) (run + 1) (drop (at + len) counts)
 
-  module _ (h : run < runs) {r : Count} (e : r ≡ count_at counts at) where
+  module _ (h : run < runs) {r : Option Count} (e : r ≡ count_at counts at) where
     by_count : run_numbers (runs - run) run (drop at counts) ≡ as_often r run behind
     unfolding run_numbers count_at
     by_count = let m : runs - run ≡ suc (runs - (run + 1)) = omega arith in rw (m, e, ← add-one run) (simp drop-drop)
 
-    pub leaving-bad : r ≡ Bad → ⊥
+    pub leaving-bad : r ≡ None → ⊥
     unfolding as_often
     leaving-bad b =
         let l : left < length {A = ℕ} [] = rw (by_count, b) at g.inside in
         omega arith
 
-    module _ {v len : ℕ} (b : r ≡ Number v len) where
+    module _ {v len : ℕ} (b : r ≡ counted v len) where
       first_run : run_numbers (runs - run) run (drop at counts) ≡ replicate v run ++ behind len
       unfolding as_often
-      first_run = by_count ∙ ap (λ (x : Count). as_often x run behind) b
+      first_run = by_count ∙ ap (λ (x : Option Count). as_often x run behind) b
 
       -- the row lies in this run
       pub leaving-here : left < v → (run ≡ get_or (run_numbers runs 0 counts) row 0) × (run < runs)

@@ -1,4 +1,5 @@
 -- Counts that are added up: the number of what the walk came to, and the runs that are left after one more. Assumes nothing.
+use Rattle.std.specs.Prelude.{Option, Result, Ok, Err}
 use Prim.Native.Nat.{ℕ, ◌+◌, ◌-◌, ◌<◌}
 use native.Mathlib.Omega.{arith}
 use mathlib.Core.List.{List}
@@ -7,20 +8,17 @@ use lib.ListN.{length}
 use borrow.Author.Tests.{eq-eqb, ne_eqb}
 use Rattle.limits.specs.Refusals.{SUM}
 use Rattle.varint.specs.declared.Count.{Count}
-use Rattle.varint.specs.declared.Count.TheVariants.{Number}
-use Rattle.varint.specs.Varint.{count_at}
-use Rattle.rle.specs.declared.Walked.{Walked}
-use Rattle.rle.specs.declared.Walked.TheVariants.{Total, Refused}
+use Rattle.varint.specs.Varint.{count_at, counted}
 use Rattle.rle.specs.RunLength.{walk_number}
 use Rattle.rle.proofs.Walking.{Walking, walking_start, walk_step}
 
 -- ---- the number of a walk that came to an end
-module _ (rows : ℕ) {w : Walked} where
-  pub number-refused : {e : ℕ} → Refused e ≡ w → e ≡ walk_number rows w
+module _ (rows : ℕ) {w : Result ℕ ℕ} where
+  pub number-refused : {e : ℕ} → Err e ≡ w → e ≡ walk_number rows w
   unfolding walk_number
   number-refused h = ap (walk_number rows) h
 
-  module _ {sum : ℕ} (h : Total sum ≡ w) where
+  module _ {sum : ℕ} (h : Ok sum ≡ w) where
     pub number-other : (sum ≡ rows → ⊥) → SUM ≡ walk_number rows w
     unfolding walk_number
     number-other d = rw (← h) (simp (ne_eqb sum rows d))
@@ -34,8 +32,8 @@ pub sums-start : (s : List ℕ) (runs : ℕ) → Walking s runs 0 0 (runs - 0)
 sums-start s runs = let m : runs - 0 ≡ runs = omega arith in rw m (walking_start s runs)
 
 pub sums-step :
-    {s : List ℕ} {runs at sum i : ℕ} → Walking s runs at sum (runs - i) → i < runs → at < length s → {r : Count} → r ≡ count_at s at
-    → {v len : ℕ} → r ≡ Number v len → (v ≡ 0 → ⊥) → Walking s runs (at + len) (sum + v) (runs - (i + 1))
+    {s : List ℕ} {runs at sum i : ℕ} → Walking s runs at sum (runs - i) → i < runs → at < length s → {r : Option Count} → r ≡ count_at s at
+    → {v len : ℕ} → r ≡ counted v len → (v ≡ 0 → ⊥) → Walking s runs (at + len) (sum + v) (runs - (i + 1))
 sums-step {runs = runs} {i = i} w l h e b z =
     let m : runs - i - 1 ≡ runs - (i + 1) = omega arith in
     rw m at (walk_step w (omega arith) h e b z)

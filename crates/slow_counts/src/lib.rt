@@ -3,42 +3,39 @@
 
 ghost use Rattle.std.specs.Prelude.{◌≡◌, ◌≤◌, ◌<◌, length, get_or};
 ghost use Rattle.limits.specs.Limits.{MOST_ITEMS, MOST_BYTES};
+ghost use Rattle.limits.specs.Refusals.{number_in};
 ghost use Rattle.rle.specs.RunLength.{walked, walk_number, run_numbers};
 ghost use Rattle.slow_counts.specs.Within.{Within};
 
-use limits::refusal;
-use varint::Count;
+use limits::refusal::Refusal;
 
 // The counts of `runs` runs, which have to be all of the bytes and come to `rows` rows.
-pub fn counts_number(rows: usize, runs: usize, counts: &[u8]) -> u8
+pub fn counts_number(rows: usize, runs: usize, counts: &[u8]) -> Result<(), Refusal>
     requires { (runs ≤ MOST_ITEMS) × (length counts.now ≤ MOST_BYTES) }
-    ensures { result ≡ walk_number rows (walked runs counts.now) }
+    ensures { number_in result ≡ walk_number rows (walked runs counts.now) }
 {
     let mut sum = 0;
     let mut at = 0;
-    let mut i = 0;
-    while i < runs {
+    for i in 0..runs {
         if counts.len() <= at {
-            return refusal::COUNTS;
+            return Err(Refusal::Counts);
         }
-        let count = slow_numbers::count_at(counts, at);
-        let Count::Number { value, len } = count else {
-            return refusal::VARINT;
+        let Some(count) = slow_numbers::count_at(counts, at) else {
+            return Err(Refusal::Varint);
         };
-        if value == 0 {
-            return refusal::COUNTS;
+        if count.value == 0 {
+            return Err(Refusal::Counts);
         }
-        sum += value as usize;
-        at += len;
-        i += 1;
+        sum += count.value as usize;
+        at += count.len;
     }
     if at < counts.len() {
-        return refusal::COUNTS;
+        return Err(Refusal::Counts);
     }
     if sum != rows {
-        return refusal::SUM;
+        return Err(Refusal::Sum);
     }
-    0
+    Ok(())
 }
 
 // The run that a row lies in: counts are taken off until one is above what is left.
@@ -48,18 +45,15 @@ pub fn run_of(counts: &[u8], runs: usize, row: usize) -> usize
 {
     let mut left = row;
     let mut at = 0;
-    let mut run = 0;
-    while run < runs {
-        let count = slow_numbers::count_at(counts, at);
-        let Count::Number { value, len } = count else {
+    for run in 0..runs {
+        let Some(count) = slow_numbers::count_at(counts, at) else {
             return run;
         };
-        if left < value as usize {
+        if left < count.value as usize {
             return run;
         }
-        left -= value as usize;
-        at += len;
-        run += 1;
+        left -= count.value as usize;
+        at += count.len;
     }
-    run
+    runs
 }

@@ -1,11 +1,14 @@
 -- The row that an entry shows, by the kind that a match found, and the room that a good plain block has for it. Assumes nothing.
-use Prim.Native.Nat.{ℕ, zero, suc, ◌+◌, ◌-◌, ◌*◌, ◌≤◌, ◌<◌}
+use Prim.Native.Nat.{ℕ, ◌+◌, ◌*◌, ◌≤◌, ◌<◌}
+use native.Mathlib.Numerals.{add-one}
 use native.Mathlib.Omega.{arith}
 use mathlib.Core.Bool.{Bool, true}
 use mathlib.Core.List.{List}
-use mathlib.Core.Path.{◌≡◌, refl, sym, ap, subst, ◌∙◌}
+use mathlib.Core.Path.{◌≡◌, sym, ap, subst, ◌∙◌}
 use lib.IntN.{ℤ}
 use lib.ListN.{length}
+use Rattle.std.specs.Prelude.{Option, Some, None, Result}
+use Rattle.limits.specs.declared.refusal.Refusal.{Refusal}
 use Rattle.encode.specs.Kinds.{width_of}
 use Rattle.encode.specs.declared.Primitive.{Primitive}
 use Rattle.encode.specs.declared.Kind.{Kind}
@@ -17,40 +20,39 @@ use Rattle.plain.proofs.Numbers.{plain-least}
 use Rattle.plain.proofs.Ranges.{least-found}
 use Rattle.dict.specs.Dictionary.{entry_row}
 use Rattle.fill.specs.Areas.{Areas, is_bytes}
-use Rattle.slow_answer.specs.declared.RowGiven.{RowGiven}
 use Rattle.slow_answer.specs.Slow.{shown_in}
+use Rattle.slow_plain.specs.Items.{slot_of}
 use Rattle.slow_giving.specs.Giving.{Gives}
 
 -- what is given of a row is given of one that equals it
-pub given-as : (k : Kind) (a : Areas) {row due : Row} {x : RowGiven} {after : Areas} → row ≡ due → Gives x after (shown_in k row a) → Gives x after (shown_in k due a)
-given-as k a {row} {due} {x} {after} e g = subst (λ (r : Row). Gives x after (shown_in k r a)) e g
+pub given-as : (k : Kind) (a : Areas) {row due : Row} (x : Result ℕ Refusal) {after : Areas} → row ≡ due → Gives x after (shown_in k row a) → Gives x after (shown_in k due a)
+given-as k a {row} {due} x {after} e g = subst (λ (r : Row). Gives x after (shown_in k r a)) e g
 
-module _ (k : Kind) (n : ℕ) (s : List ℕ) (slot : ℕ) where
-  pub null-shown : slot ≡ 0 → null ≡ entry_row k n s slot
+module _ (k : Kind) (n : ℕ) (s : List ℕ) {item : Option ℕ} where
+  pub null-shown : item ≡ None → null ≡ entry_row k n s (slot_of item)
   unfolding entry_row
-  null-shown z = rw z
+  null-shown e = rw e
 
-  module _ (some : slot ≡ 0 → ⊥) where
-    item-shown : plain_row k n s (slot - 1) ≡ entry_row k n s slot
+  module _ {i : ℕ} (is : item ≡ Some i) where
+    item-shown : plain_row k n s i ≡ entry_row k n s (slot_of item)
     unfolding entry_row
-    item-shown = go slot some
-      where
-        go : (i : ℕ) → (i ≡ 0 → ⊥) → plain_row k n s (i - 1) ≡ entry_row k n s i
-        go zero h = absurd (h refl)
-        go (suc i) h = let m : suc i - 1 ≡ i = omega arith in rw m
+    item-shown = rw (is, add-one)
 
-    found-shown : (j : Kind) → k ≡ j → plain_row j n s (slot - 1) ≡ entry_row k n s slot
-    found-shown j e = ap (λ (q : Kind). plain_row q n s (slot - 1)) (sym e) ∙ item-shown
+    pub item-there : slot_of item ≤ n → i < n
+    item-there h = let l = rw is at h in omega arith
 
-    pub fixed-shown : (p : Primitive) {v : ℤ} → k ≡ Fixed p → v ≡ fixed_at p s (slot - 1) → int v ≡ entry_row k n s slot
+    found-shown : (j : Kind) → k ≡ j → plain_row j n s i ≡ entry_row k n s (slot_of item)
+    found-shown j e = ap (λ (q : Kind). plain_row q n s i) (sym e) ∙ item-shown
+
+    pub fixed-shown : (p : Primitive) {v : ℤ} → k ≡ Fixed p → v ≡ fixed_at p s i → int v ≡ entry_row k n s (slot_of item)
     unfolding plain_row
     fixed-shown p e h = ap (λ (z : ℤ). int z) h ∙ found-shown (Fixed p) e
 
-    pub char-shown : (w : ℕ) → k ≡ Char w → bytes (char_at w s (slot - 1)) ≡ entry_row k n s slot
+    pub char-shown : (w : ℕ) → k ≡ Char w → bytes (char_at w s i) ≡ entry_row k n s (slot_of item)
     unfolding plain_row
     char-shown w e = found-shown (Char w) e
 
-    pub blob-shown : (text : Bool) → k ≡ Blob text → bytes (blob_at n s (slot - 1)) ≡ entry_row k n s slot
+    pub blob-shown : (text : Bool) → k ≡ Blob text → bytes (blob_at n s i) ≡ entry_row k n s (slot_of item)
     unfolding plain_row
     blob-shown text e = found-shown (Blob text) e
 

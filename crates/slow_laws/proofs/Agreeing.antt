@@ -56,7 +56,7 @@ module _ {k : Kind} {e : Encoding} {n : ℕ} {b : List ℕ} {r : Reader} {is : L
   read-there =
       let fits : skip ≤ r.rows - r.place = omega (arith, g.count) in
       let fine = tests-fine r (length b) skip 1 refl (asks-one skip) refl g.column g.long refl (not-wrong k e r g.right) fits in
-      sym (read-passed r b skip 1 a refl (sym fine)).on
+      sym (read-passed r b skip 1 a fine).on
       ∙ ap (pass_then k e r b skip 1 a) there.first
       ∙ ap (whole r a) (gives there.stands 1 a)
 

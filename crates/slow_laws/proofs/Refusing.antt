@@ -1,4 +1,5 @@
 -- 02 (xiii): "Refusals: opening's, then 7 for r at or above n, then 4." Each leaves the lent areas as they were. Assumes nothing.
+use Rattle.std.specs.Prelude.{Option, Some, None}
 use Prim.Native.Nat.{ℕ, zero, suc, ◌≤◌}
 use mathlib.Core.Bool.{Bool, true, false, cond}
 use mathlib.Core.List.{List, [], ◌∷◌}
@@ -10,7 +11,6 @@ use Rattle.limits.specs.Refusals.{ROOM, TOO_FAR}
 use Rattle.encode.specs.declared.Kind.{Kind}
 use Rattle.plain.specs.Rows.{Row, null}
 use Rattle.format.specs.declared.Column.{Column}
-use Rattle.format.specs.declared.Column.TheVariants.{Of, Unknown}
 use Rattle.format.specs.Opening.{rows_of}
 use Rattle.fill.specs.Areas.{Areas, short, filled_in, given_bytes}
 use Rattle.descriptor.specs.declared.Descriptor.{Descriptor}
@@ -46,17 +46,17 @@ module _ (d : Descriptor) (b : List ℕ) (r : ℕ) (a : Areas) where
       go true h = refl
       go false h = absurd (h refl)
 
-  column-left : (c : Column) → Left (shown_of c d.rows b r a)
+  column-left : (c : Option Column) → Left (shown_of c d.rows b r a)
   unfolding shown_of
-  column-left Unknown = λ h. refl
-  column-left (Of k e) = go (leb d.rows r)
+  column-left None = λ h. refl
+  column-left (Some c) = go (leb d.rows r)
     where
       row : Row
-      row = get_or (rows_of k e d.rows b) r null
+      row = get_or (rows_of c.kind c.encoding d.rows b) r null
 
-      go : (t : Bool) → Left (cond t (refused_row TOO_FAR a) (shown_in k row a))
+      go : (t : Bool) → Left (cond t (refused_row TOO_FAR a) (shown_in c.kind row a))
       go true = λ h. refl
-      go false = row-left k row
+      go false = row-left c.kind row
 
   number-left : (m : ℕ) → Left (shown_by m (named d b) d.rows b r a)
   unfolding shown_by

@@ -23,7 +23,7 @@ pub fn is_set(bitmap: &[u8], i: usize) -> bool
     (byte >> (i % 8)) % 2 != 0
 }
 
-// What key `i` names: 0 for null, else an entry, from 1 on.
+// What key `i` names: 0 for null, else an entry, from 1 on. The format's own number, which the rule on keys compares with the entries as it is.
 pub fn slot_at(keys: &[u8], i: usize) -> usize
     requires { (i < MOST_ITEMS) × (4 * i + 4 ≤ length keys.now) }
     ensures { (result ≡ slot_at keys.now i) × (result < 2 ^ 32) }

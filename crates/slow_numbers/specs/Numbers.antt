@@ -1,8 +1,8 @@
 -- For the code: which order a flag names, which byte is taken next, and what the bytes of a count that were passed make of the rest. Assumes nothing.
-use Rattle.std.specs.Prelude.{ℕ, ◌+◌, ◌-◌, ◌*◌, Bool, true, false, cond, ◌&&◌, ltb, eqb}
+use Rattle.std.specs.Prelude.{ℕ, ◌+◌, ◌-◌, ◌*◌, Bool, true, false, cond, ◌&&◌, ltb, eqb, Option, Some, None}
 use Rattle.encode.specs.Bytes.{Order, low_first, high-first}
 use Rattle.varint.specs.declared.Count.{Count}
-use Rattle.varint.specs.declared.Count.TheVariants.{Number, Bad}
+use Rattle.varint.specs.Varint.{counted}
 
 unfoldable pub order_by : Bool → Order
 order_by true = high-first
@@ -18,6 +18,6 @@ abbrev pub idle_after : ℕ → ℕ → Bool
 idle_after i b = ltb 0 i && eqb b 0
 
 -- i bytes of a count, worth so much together, before the rest of it, which is worth so many times as much
-unfoldable pub ahead : ℕ → ℕ → ℕ → Count → Count
-ahead value worth i (Number v n) = cond (idle_after i v) Bad (Number (value + v * worth) (i + n))
-ahead value worth i Bad = Bad
+unfoldable pub ahead : ℕ → ℕ → ℕ → Option Count → Option Count
+ahead value worth i (Some c) = cond (idle_after i c.value) None (counted (value + c.value * worth) (i + c.len))
+ahead value worth i None = None

@@ -3,8 +3,7 @@
 
 ghost use Rattle.std.specs.Prelude.{◌≡◌, ◌+◌, ◌≤◌, ◌<◌, ◌^◌, length, take, drop};
 ghost use Rattle.encode.specs.Bytes.{number_of};
-ghost use Rattle.varint.specs.declared.Count.TheVariants.{Number};
-ghost use Rattle.varint.specs.Varint.{count_at, in_32_bits};
+ghost use Rattle.varint.specs.Varint.{count_at, counted, in_32_bits};
 ghost use Rattle.slow_numbers.specs.Numbers.{order_by, place_by, idle_after, ahead};
 
 use varint::Count;
@@ -21,11 +20,9 @@ pub fn number_at(s: &[u8], at: usize, w: usize, high: bool) -> u64
     ensures { (result ≡ number_of (order_by high) (take w (drop at s.now))) × (result < 256 ^ w) }
 {
     let mut n: u64 = 0;
-    let mut i = 0;
-    while i < w {
+    for i in 0..w {
         let from = place(at, w, high, i);
         n = n * 256 + wide(s[from]);
-        i += 1;
     }
     n
 }
@@ -43,16 +40,15 @@ fn place(at: usize, w: usize, high: bool, i: usize) -> usize
 
 // The count at a place: seven bits a byte, the lowest first, and in all but the last byte the top bit set; at most five bytes, no byte too
 // many, below 2^32.
-pub fn count_at(s: &[u8], at: usize) -> Count
+pub fn count_at(s: &[u8], at: usize) -> Option<Count>
     requires { at ≤ length s.now }
     ensures { result ≡ count_at s.now at }
 {
     let mut value: u64 = 0;
     let mut worth: u64 = 1;
-    let mut i = 0;
-    while i < 5 {
+    for i in 0..5 {
         if s.len() - at <= i {
-            return Count::Bad;
+            return None;
         }
         let b = wide(s[at + i]);
         if b < 128 {
@@ -60,9 +56,8 @@ pub fn count_at(s: &[u8], at: usize) -> Count
         }
         value += (b - 128) * worth;
         worth *= 128;
-        i += 1;
     }
-    Count::Bad
+    None
 }
 
 // Whether a last byte is one too many: it is worth nothing, and others stand before it.
@@ -76,19 +71,19 @@ fn idle(i: usize, b: u64) -> bool
 }
 
 // A count whose last byte comes after `i` others, which are worth `value` together.
-fn last_byte(value: u64, worth: u64, i: usize, b: u64) -> Count
+fn last_byte(value: u64, worth: u64, i: usize, b: u64) -> Option<Count>
     requires { (value < worth) × (worth ≤ 2 ^ 28) × (i < 5) × (b < 128) }
-    ensures { result ≡ in_32_bits (ahead value worth i (Number b 1)) }
+    ensures { result ≡ in_32_bits (ahead value worth i (counted b 1)) }
 {
     if idle(i, b) {
-        return Count::Bad;
+        return None;
     }
     let whole = value + b * worth;
     if 0xffff_ffff < whole {
-        return Count::Bad;
+        return None;
     }
-    Count::Number {
+    Some(Count {
         value: whole as u32,
         len: i + 1,
-    }
+    })
 }

@@ -10,6 +10,7 @@ use borrow.Author.Tests.{not-true, not-false}
 use lib.Dec.{eqb}
 use lib.ListN.{length, take, drop, get_or}
 use lib.Seq.{take_all}
+use Rattle.std.specs.Prelude.{Option, Some, None}
 use Rattle.limits.specs.Limits.{MOST_ITEMS}
 use Rattle.encode.specs.declared.Kind.{Kind}
 use Rattle.plain.specs.Rows.{Row, null}
@@ -23,12 +24,13 @@ use Rattle.format.specs.declared.Encoding.{Encoding}
 use Rattle.format.specs.declared.Encoding.TheVariants.{Plain, Nullable}
 use Rattle.format.specs.Opening.{most_rows, head_of, row_at, places_of, rows_of}
 use Rattle.format.proofs.Sound.{plain-sound, nullable-sound}
+use Rattle.slow_plain.specs.Items.{slot_of}
 use Rattle.slow_places.specs.declared.Place.{Place}
 use Rattle.slow_places.specs.Places.{Opened}
 use Rattle.slow_places.specs.Inner.{Told, Has}
 
-abbrev pub place : ℕ → ℕ → ℕ → ℕ → Place
-place from to items slot = record { from = from; to = to; items = items; slot = slot }
+abbrev pub place : ℕ → ℕ → ℕ → Option ℕ → Place
+place from to items item = record { from = from; to = to; items = items; item = item }
 
 -- ---- the encoding that a match found, for the one that was given
 module _ {e f : Encoding} (same : e ≡ f) {n : ℕ} {b : List ℕ} where
@@ -61,7 +63,7 @@ entry-item k n s i = rw add-one
 
 -- ---- plain
 module _ (n : ℕ) (b : List ℕ) (i : ℕ) (l : i < n) where
-  pub plain-told : Opened Plain n b → Told Plain n b i (place 0 (length b) n (i + 1))
+  pub plain-told : Opened Plain n b → Told Plain n b i (place 0 (length b) n (Some i))
   unfolding most_rows
   plain-told o k z =
       let a : take (length b - 0) b ≡ b = take_all (length b - 0) b (omega arith) in
@@ -110,8 +112,10 @@ module _ (n : ℕ) (b : List ℕ) (i : ℕ) (l : i < n) (o : Opened Nullable n b
   unfolding plain_part
   its-items = let m : length b - (bitmap_length n + 4) - 0 ≡ length b - (bitmap_length n + 4) = omega arith in rw (e, m)
 
-  shown_by : (slot : ℕ) → slot ≤ n → ((k : Kind) → nullable_row k n b i ≡ entry_row k n (plain_part n b) slot) → Told Nullable n b i (place 0 bits n slot)
-  shown_by slot h f k z =
+  shown_by :
+      (item : Option ℕ) → slot_of item ≤ n → ((k : Kind) → nullable_row k n b i ≡ entry_row k n (plain_part n b) (slot_of item))
+      → Told Nullable n b i (place 0 bits n item)
+  shown_by item h f k z =
       let s = NullableParts.sound k n b (nullable-sound k n b z) in
       let a : take (bits - 0) b ≡ plain_part n b = its-items in
       record {
@@ -129,9 +133,9 @@ module _ (n : ℕ) (b : List ℕ) (i : ℕ) (l : i < n) (o : Opened Nullable n b
     unfolding nullable_row
     bit_is u r k = ap (λ (x : Bool). cond x null (plain_row k n (plain_part n b) i)) (rw its-bitmap at r)
 
-    pub item-told : t ≡ true → Told Nullable n b i (place 0 bits n (i + 1))
-    item-told r = shown_by (i + 1) (omega arith) (λ k. bit_is false (not-true _ (sym q ∙ r)) k ∙ entry-item k n (plain_part n b) i)
+    pub item-told : t ≡ true → Told Nullable n b i (place 0 bits n (Some i))
+    item-told r = shown_by (Some i) (omega arith) (λ k. bit_is false (not-true _ (sym q ∙ r)) k ∙ entry-item k n (plain_part n b) i)
 
-    pub null-told : t ≡ false → Told Nullable n b i (place 0 bits n 0)
+    pub null-told : t ≡ false → Told Nullable n b i (place 0 bits n None)
     unfolding entry_row
-    null-told r = shown_by 0 (omega arith) (λ k. bit_is true (not-false _ (sym q ∙ r)) k)
+    null-told r = shown_by None (omega arith) (λ k. bit_is true (not-false _ (sym q ∙ r)) k)

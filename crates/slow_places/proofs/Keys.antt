@@ -7,6 +7,7 @@ use mathlib.Core.List.{List}
 use mathlib.Core.Path.{◌≡◌}
 use lib.ListN.{length, take, drop, length-drop}
 use lib.Seq.{take_all}
+use Rattle.std.specs.Prelude.{Option}
 use Rattle.limits.specs.Limits.{MOST_BYTES}
 use Rattle.encode.specs.Bytes.{number_of}
 use Rattle.encode.specs.declared.Kind.{Kind}
@@ -20,6 +21,7 @@ use Rattle.format.specs.declared.Encoding.TheVariants.{Dictionary}
 use Rattle.format.specs.Opening.{rules_of, head_of, row_at, counts_in, places_of, rows_of}
 use Rattle.format.proofs.Sound.{SoundKeys, dictionary-sound}
 use Rattle.slow_numbers.specs.Numbers.{order_by}
+use Rattle.slow_plain.specs.Items.{slot_of}
 use Rattle.slow_places.specs.Places.{Shows}
 use Rattle.slow_places.specs.Inner.{Told, Has, items_of, Counted, run_at}
 use Rattle.slow_places.proofs.Items.{place}
@@ -63,9 +65,10 @@ module _ (k : Kind) (n : ℕ) (b : List ℕ) (z : rules_of k Dictionary n b ≡ 
       omega (arith, plain-least i32 (runs_in (key_block b)) (items_of (key_block b)) s.inside)
 
   entry-shows : run_at (key_block b) row < runs_in (key_block b)
-      → Shows k Dictionary n b row (place (12 + key_length b) (length b) (entries_in b) (slot_at (items_of (key_block b)) (run_at (key_block b) row)))
+      → {item : Option ℕ} → slot_of item ≡ slot_at (items_of (key_block b)) (run_at (key_block b) row)
+      → Shows k Dictionary n b row (place (12 + key_length b) (length b) (entries_in b) item)
   unfolding rows_of row_at places_of counts_in head_of entries_part
-  entry-shows j =
+  entry-shows j {item} q =
       let at = 12 + key_length b in
       let m = sound.parts.few in
       let a : take (length b - at) (drop at b) ≡ drop at b = take_all (length b - at) (drop at b) (omega (arith, length-drop at b)) in
@@ -74,8 +77,8 @@ module _ (k : Kind) (n : ℕ) (b : List ℕ) (z : rules_of k Dictionary n b ≡ 
         inside = omega arith;
         few = omega arith;
         sound = rw a sound.parts.entries-inside;
-        slot = rw zero-add at (known_at (entries_in b) (items_of (key_block b)) (runs_in (key_block b)) 0 (run_at (key_block b) row) sound.all_known j);
-        shown = rw a (row_of_run (plain_number i32) sound.parts.key-runs l (row_at k Dictionary n (head_of Dictionary b) b));
+        slot = rw q (rw zero-add at (known_at (entries_in b) (items_of (key_block b)) (runs_in (key_block b)) 0 (run_at (key_block b) row) sound.all_known j));
+        shown = rw (a, q) (row_of_run (plain_number i32) sound.parts.key-runs l (row_at k Dictionary n (head_of Dictionary b) b));
       }
 
 -- ---- what the code found
@@ -94,6 +97,7 @@ module _ {b : List ℕ} {row : ℕ} (h : Has Dictionary b row) where
         rw (part-read b e)
         (key-counted o.kind h.rows b o.sound row h.inside o.short, keys-long o.kind h.rows b o.sound row h.inside)
 
-    pub key-told : {entries slot : ℕ} → entries ≡ entries_in b → slot ≡ slot_at (items_of part) (run_at part row) → run_at part row < runs_in part
-        → (n : ℕ) → row < n → Told Dictionary n b row (place (12 + u) (length b) entries slot)
-    key-told f g j n l k z = rw (f, g, part-read b e, e) (entry-shows k n b z row l (rw (part-read b e) at j))
+    pub key-told :
+        {entries : ℕ} (item : Option ℕ) → entries ≡ entries_in b → slot_of item ≡ slot_at (items_of part) (run_at part row) → run_at part row < runs_in part
+        → (n : ℕ) → row < n → Told Dictionary n b row (place (12 + u) (length b) entries item)
+    key-told item f g j n l k z = rw (f, e) (entry-shows k n b z row l (rw (part-read b e) at j) {item = item} (rw (part-read b e) at g))

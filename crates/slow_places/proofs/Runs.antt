@@ -1,4 +1,5 @@
 -- A row that lies in a run: the run's item, in the block behind the counts. Assumes nothing.
+use Rattle.std.specs.Prelude.{Ok}
 use Prim.Native.Nat.{ℕ, zero, suc, ◌+◌, ◌-◌, ◌*◌, ◌^◌, ◌≤◌, ◌<◌}
 use native.Mathlib.Omega.{arith}
 use mathlib.Core.Bool.{Bool, true, false}
@@ -11,7 +12,6 @@ use Rattle.limits.specs.Limits.{MOST_ITEMS, MOST_BYTES}
 use Rattle.encode.specs.Bytes.{number_of}
 use Rattle.encode.specs.declared.Kind.{Kind}
 use Rattle.plain.specs.Rows.{Row, null}
-use Rattle.rle.specs.declared.Walked.TheVariants.{Total}
 use Rattle.rle.specs.RunLength.{runs_in, counts_length, counts_part, inner_part, walked, run_length_number, run_numbers}
 use Rattle.rle.specs.Stepping.{spot}
 use Rattle.rle.proofs.Steps.{steps-length}
@@ -83,7 +83,7 @@ map_at f (x ∷ is) zero d l = refl
 map_at f (x ∷ is) (suc i) d l = map_at f is i d (omega arith)
 
 -- the runs have as many rows as the walk over their counts adds up
-run-count : (runs : ℕ) (counts : List ℕ) (n : ℕ) → walked runs counts ≡ Total n → length (run_numbers runs 0 counts) ≡ n
+run-count : (runs : ℕ) (counts : List ℕ) (n : ℕ) → walked runs counts ≡ Ok n → length (run_numbers runs 0 counts) ≡ n
 run-count runs counts n e = steps-length runs counts n (spot 0 0 0) (whole-steps runs counts n e).1
 
 module _ (inner : ℕ → List ℕ → ℕ) {n : ℕ} {b : List ℕ} (s : SoundRuns inner n b (runs_in b) (counts_length b)) {row : ℕ} (l : row < n) where

@@ -54,4 +54,4 @@ pub record Lies (b : List ℕ) (row : ℕ) (r : InRun) : Type 0 where
 
 -- a place in a part, as a place in the whole: the part begins so many bytes on
 abbrev pub moved_by : ℕ → Place → Place
-moved_by by p = record { from = by + p.from; to = by + p.to; items = p.items; slot = p.slot }
+moved_by by p = record { from = by + p.from; to = by + p.to; items = p.items; item = p.item }

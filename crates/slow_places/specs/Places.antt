@@ -7,6 +7,7 @@ use Rattle.plain.specs.Plain.{plain_number}
 use Rattle.dict.specs.Dictionary.{entry_row}
 use Rattle.format.specs.declared.Encoding.{Encoding}
 use Rattle.format.specs.Opening.{most_rows, rules_of, rows_of}
+use Rattle.slow_plain.specs.Items.{slot_of}
 use Rattle.slow_places.specs.declared.Place.{Place}
 
 -- a block of n rows that keeps the rules, of some kind
@@ -26,5 +27,5 @@ pub record Shows (k : Kind) (e : Encoding) (n : ℕ) (b : List ℕ) (r : ℕ) (p
   pub inside : p.to ≤ length b
   pub few : p.items ≤ MOST_ITEMS
   pub sound : plain_number k p.items (items_at p b) ≡ 0
-  pub slot : p.slot ≤ p.items
-  pub shown : get_or (rows_of k e n b) r null ≡ entry_row k p.items (items_at p b) p.slot
+  pub slot : slot_of p.item ≤ p.items
+  pub shown : get_or (rows_of k e n b) r null ≡ entry_row k p.items (items_at p b) (slot_of p.item)

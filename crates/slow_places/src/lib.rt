@@ -7,18 +7,19 @@ ghost use Rattle.rle.specs.RunLength.{runs_in};
 ghost use Rattle.dict.specs.Dictionary.{slot_at};
 ghost use Rattle.format.specs.declared.Encoding.TheVariants.{Nullable, Dictionary};
 ghost use Rattle.format.specs.Opening.{rules_of};
+ghost use Rattle.slow_plain.specs.Items.{slot_of};
 ghost use Rattle.slow_places.specs.Places.{Opened, Shows};
 ghost use Rattle.slow_places.specs.Inner.{Told, items_by, runs_by, Has, Counted, items_of, run_at, Lies, moved_by};
 
 use format::Encoding;
 
-// Where a row's item stands: in the plain block from `from` to `to`, of so many items, from 1 on; 0 is null.
+// Where a row's item stands: in the plain block from `from` to `to`, of so many items; null has none.
 #[derive(Clone, Copy)]
 pub struct Place {
     pub from: usize,
     pub to: usize,
     pub items: usize,
-    pub slot: usize,
+    pub item: Option<usize>,
 }
 
 // ---- a row that is an item
@@ -30,20 +31,16 @@ fn nullable_place(s: &[u8], n: usize, i: usize) -> Place
 {
     let bits = s.len() - (slow_marks::bitmap_len(n) + 4);
     let end = s.len() - 4;
-    let slot = i + 1;
-    if slow_marks::is_set(&s[bits..end], i) {
-        return Place {
-            from: 0,
-            to: bits,
-            items: n,
-            slot,
-        };
-    }
+    let item = if slow_marks::is_set(&s[bits..end], i) {
+        Some(i)
+    } else {
+        None
+    };
     Place {
         from: 0,
         to: bits,
         items: n,
-        slot: 0,
+        item,
     }
 }
 
@@ -59,7 +56,7 @@ fn item_place(nullable: bool, s: &[u8], n: usize, i: usize) -> Place
         from: 0,
         to: s.len(),
         items: n,
-        slot: i + 1,
+        item: Some(i),
     }
 }
 
@@ -92,7 +89,7 @@ fn moved(p: Place, by: usize) -> Place
         from: by + p.from,
         to: by + p.to,
         items: p.items,
-        slot: p.slot,
+        item: p.item,
     }
 }
 
@@ -105,14 +102,18 @@ fn run_place(s: &[u8], nullable: bool, row: usize) -> Place
     moved(item_place(nullable, &s[inner..], at.runs, at.run), inner)
 }
 
-// What the key of a row names, in the block of the keys.
-fn key_slot(s: &[u8], row: usize) -> usize
+// The entry that the key of a row names, in the block of the keys.
+fn key_entry(s: &[u8], row: usize) -> Option<usize>
     requires { Counted s.now row × (4 * runs_in s.now ≤ length (items_of s.now)) }
-    ensures { (result ≡ slot_at (items_of s.now) (run_at s.now row)) × (run_at s.now row < runs_in s.now) }
+    ensures { (slot_of result ≡ slot_at (items_of s.now) (run_at s.now row)) × (run_at s.now row < runs_in s.now) }
 {
     let at = run_at(s, row);
     let inner = at.inner;
-    slow_marks::slot_at(&s[inner..], at.run)
+    let slot = slow_marks::slot_at(&s[inner..], at.run);
+    if slot == 0 {
+        return None;
+    }
+    Some(slot - 1)
 }
 
 fn key_place(s: &[u8], row: usize) -> Place
@@ -125,7 +126,7 @@ fn key_place(s: &[u8], row: usize) -> Place
         from: behind,
         to: s.len(),
         items: entries,
-        slot: key_slot(&s[12..behind], row),
+        item: key_entry(&s[12..behind], row),
     }
 }
 

@@ -3,7 +3,7 @@
 
 ghost use Rattle.std.specs.Prelude.{◌≡◌, true, not, ◌+◌, ◌*◌, ◌^◌, ◌<◌, ◌≤◌, ltb, eqb, length, take, drop};
 ghost use Rattle.limits.specs.Limits.{MOST_ITEMS};
-ghost use Rattle.limits.specs.Refusals.{LENGTH};
+ghost use Rattle.limits.specs.Refusals.{LENGTH, number_in};
 ghost use Rattle.encode.specs.Kinds.{width_of, true_or_false, blob, string};
 ghost use Rattle.encode.specs.declared.Kind.TheVariants.{Char};
 ghost use Rattle.plain.specs.Plain.{end_at, start_at, fixed_at, char_at, blob_at, ends_good, least_bytes, lengths_number, all_text, plain_number};
@@ -11,7 +11,7 @@ ghost use Rattle.plain.specs.Rules.{◌if◌};
 ghost use Rattle.slow_plain.specs.Items.{high_first, read_as, signed_by};
 
 use encode::{Kind, Primitive};
-use limits::refusal;
+use limits::refusal::Refusal;
 
 // The bytes of an item: where they begin, and how many they are.
 #[derive(Clone, Copy)]
@@ -112,14 +112,12 @@ fn char_len(w: usize, s: &[u8], i: usize) -> usize
     ensures { (result ≡ length (char_at w s.now i)) × (result ≤ w) }
 {
     let from = i * w;
-    let mut len = 0;
-    while len < w {
+    for len in 0..w {
         if s[from + len] == 0 {
             return len;
         }
-        len += 1;
     }
-    len
+    w
 }
 
 // Char item `i`.
@@ -166,36 +164,34 @@ pub fn blob_at(n: usize, s: &[u8], i: usize) -> Piece
 // ---- the rules
 
 // The ends of `n` items: none falls below the one before or passes the data, and the last is the data's length.
-fn ends_number(n: usize, s: &[u8]) -> u8
+fn ends_number(n: usize, s: &[u8]) -> Result<(), Refusal>
     requires { n ≤ MOST_ITEMS }
-    ensures { result ≡ lengths_number blob n s.now }
+    ensures { number_in result ≡ lengths_number blob n s.now }
 {
     if s.len() < 4 * n {
-        return refusal::CUT;
+        return Err(Refusal::Cut);
     }
     let data = s.len() - 4 * n;
     let mut before = 0;
-    let mut i = 0;
-    while i < n {
+    for i in 0..n {
         let end = end_at(s, i);
         if end < before {
-            return refusal::ENDS;
+            return Err(Refusal::Ends);
         }
         if data < end {
-            return refusal::ENDS;
+            return Err(Refusal::Ends);
         }
         before = end;
-        i += 1;
     }
     if before != data {
-        return refusal::LENGTH;
+        return Err(Refusal::Length);
     }
-    0
+    Ok(())
 }
 
-fn lengths_number(kind: Kind, n: usize, s: &[u8]) -> u8
+fn lengths_number(kind: Kind, n: usize, s: &[u8]) -> Result<(), Refusal>
     requires { n ≤ MOST_ITEMS }
-    ensures { result ≡ lengths_number kind n s.now }
+    ensures { number_in result ≡ lengths_number kind n s.now }
 {
     match kind {
         Kind::Fixed(p) => whole(s.len(), n * width_of(p)),
@@ -204,29 +200,26 @@ fn lengths_number(kind: Kind, n: usize, s: &[u8]) -> u8
     }
 }
 
-fn whole(len: usize, due: usize) -> u8
-    ensures { result ≡ LENGTH if not (eqb len due) }
+fn whole(len: usize, due: usize) -> Result<(), Refusal>
+    ensures { number_in result ≡ LENGTH if not (eqb len due) }
 {
     if len == due {
-        return 0;
+        return Ok(());
     }
-    refusal::LENGTH
+    Err(Refusal::Length)
 }
 
-// Whether each char item up to its first NUL is text, and each string item.
+// Whether each char item up to its first NUL is text, and each string item: two loops, since what they look up asks for other facts; one over a
+// closure that says them is longer.
 fn chars_are_text(w: usize, n: usize, s: &[u8]) -> bool
     requires { (n ≤ MOST_ITEMS) × (w < 256) × (n * w ≤ length s.now) }
     ensures { result ≡ all_text (Char w) n s.now }
 {
-    let mut i = 0;
-    while i < n {
+    for i in 0..n {
         let item = char_at(w, n, s, i);
-        let from = item.from;
-        let len = item.len;
-        if !slow_text::is_text(s, from, len) {
+        if !slow_text::is_text(s, item.from, item.len) {
             return false;
         }
-        i += 1;
     }
     true
 }
@@ -235,15 +228,11 @@ fn strings_are_text(n: usize, s: &[u8]) -> bool
     requires { (n ≤ MOST_ITEMS) × (lengths_number blob n s.now ≡ 0) }
     ensures { result ≡ all_text string n s.now }
 {
-    let mut i = 0;
-    while i < n {
+    for i in 0..n {
         let item = blob_at(n, s, i);
-        let from = item.from;
-        let len = item.len;
-        if !slow_text::is_text(s, from, len) {
+        if !slow_text::is_text(s, item.from, item.len) {
             return false;
         }
-        i += 1;
     }
     true
 }
@@ -264,17 +253,14 @@ fn is_text(kind: Kind, n: usize, s: &[u8]) -> bool
     }
 }
 
-// The number of the first rule that breaks.
-pub fn plain_number(kind: Kind, n: usize, s: &[u8]) -> u8
+// The first rule that breaks.
+pub fn plain_number(kind: Kind, n: usize, s: &[u8]) -> Result<(), Refusal>
     requires { n ≤ MOST_ITEMS }
-    ensures { result ≡ plain_number kind n s.now }
+    ensures { number_in result ≡ plain_number kind n s.now }
 {
-    let number = lengths_number(kind, n, s);
-    if number != 0 {
-        return number;
-    }
+    lengths_number(kind, n, s)?;
     if is_text(kind, n, s) {
-        return 0;
+        return Ok(());
     }
-    refusal::TEXT
+    Err(Refusal::Text)
 }

@@ -1,4 +1,5 @@
 -- What three numbers name, and the number that a column's rules give, by what the code tested. Assumes nothing.
+use Rattle.std.specs.Prelude.{Option, Some, None}
 use Prim.Native.Nat.{ℕ, ◌≤◌, ◌<◌}
 use mathlib.Core.List.{List}
 use mathlib.Core.Path.{◌≡◌, sym, ap, ◌∙◌}
@@ -8,13 +9,10 @@ use Rattle.limits.specs.Limits.{MOST_BYTES}
 use Rattle.limits.specs.Refusals.{COLUMN, LIMIT}
 use Rattle.encode.specs.Kinds.{numbered, kind_of}
 use Rattle.encode.specs.declared.Kind.{Kind}
-use Rattle.encode.specs.declared.FoundKind.{FoundKind}
-use Rattle.encode.specs.declared.FoundKind.TheVariants.{Known, Unknown as UnknownKind}
 use Rattle.plain.specs.Rules.{first_of}
 use Rattle.format.specs.declared.Encoding.{Encoding}
 use Rattle.format.specs.declared.Column.{Column}
-use Rattle.format.specs.declared.Column.TheVariants.{Of, Unknown}
-use Rattle.format.specs.Blocks.{with_encoding, column_of}
+use Rattle.format.specs.Blocks.{column_of, column}
 use Rattle.format.specs.Opening.{most_rows, rules_of, column_number, open_number}
 use Rattle.format.proofs.Sound.{column-rules}
 use Rattle.descriptor.specs.declared.Descriptor.{Descriptor}
@@ -24,7 +22,7 @@ use Rattle.descriptor.specs.Descriptor.{described_number}
 -- a number that is no kind's, or char's
 pub no_number :
     (k : ℕ) (n0 : k ≡ 0 → ⊥) (n1 : k ≡ 1 → ⊥) (n2 : k ≡ 2 → ⊥) (n3 : k ≡ 3 → ⊥) (n4 : k ≡ 4 → ⊥) (n5 : k ≡ 5 → ⊥)
-    (n6 : k ≡ 6 → ⊥) (n7 : k ≡ 7 → ⊥) (n9 : k ≡ 9 → ⊥) (n10 : k ≡ 10 → ⊥) (n11 : k ≡ 11 → ⊥) → UnknownKind ≡ numbered k
+    (n6 : k ≡ 6 → ⊥) (n7 : k ≡ 7 → ⊥) (n9 : k ≡ 9 → ⊥) (n10 : k ≡ 10 → ⊥) (n11 : k ≡ 11 → ⊥) → None ≡ numbered k
 unfolding numbered
 no_number k n0 n1 n2 n3 n4 n5 n6 n7 n9 n10 n11 =
     simp (
@@ -42,29 +40,23 @@ no_number k n0 n1 n2 n3 n4 n5 n6 n7 n9 n10 n11 =
     )
 
 -- no char, and no width
-pub by_number : (k w : ℕ) {r : FoundKind} → (k ≡ 8 → ⊥) → w ≡ 0 → r ≡ numbered k → r ≡ kind_of k w
+pub by_number : (k w : ℕ) {r : Option Kind} → (k ≡ 8 → ⊥) → w ≡ 0 → r ≡ numbered k → r ≡ kind_of k w
 unfolding kind_of
 by_number k w other z e = e ∙ simp (ne_eqb k 8 other, eq-eqb w 0 z)
-
--- ---- encodings
-pub no-encoding :
-    (k : Kind) (e : ℕ) (n0 : e ≡ 0 → ⊥) (n1 : e ≡ 1 → ⊥) (n2 : e ≡ 2 → ⊥) (n3 : e ≡ 3 → ⊥) (n4 : e ≡ 4 → ⊥) → Unknown ≡ with_encoding (Known k) e
-unfolding with_encoding
-no-encoding k e n0 n1 n2 n3 n4 = simp (ne_eqb e 0 n0, ne_eqb e 1 n1, ne_eqb e 2 n2, ne_eqb e 3 n3, ne_eqb e 4 n4)
 
 -- ---- the number
 -- the rules of the encoding that a match found
 pub rules-found : (k : Kind) {e : Encoding} (n : ℕ) (b : List ℕ) (f : Encoding) {r : ℕ} → e ≡ f → r ≡ rules_of k f n b → r ≡ rules_of k e n b
 rules-found k n b f q p = p ∙ ap (λ (x : Encoding). rules_of k x n b) (sym q)
 
-module _ {c : Column} (n : ℕ) (b : List ℕ) where
-  pub unknown : c ≡ Unknown → COLUMN ≡ column_number c n b
+module _ {c : Option Column} (n : ℕ) (b : List ℕ) where
+  pub unknown : c ≡ None → COLUMN ≡ column_number c n b
   unfolding column_number
-  unknown q = ap (λ (x : Column). column_number x n b) (sym q)
+  unknown q = ap (λ (x : Option Column). column_number x n b) (sym q)
 
-  module _ {k : Kind} {e : Encoding} (q : c ≡ Of k e) where
-    named : column_number (Of k e) n b ≡ column_number c n b
-    named = ap (λ (x : Column). column_number x n b) (sym q)
+  module _ {k : Kind} {e : Encoding} (q : c ≡ Some (column k e)) where
+    named : column_number (Some (column k e)) n b ≡ column_number c n b
+    named = ap (λ (x : Option Column). column_number x n b) (sym q)
 
     pub too_long : MOST_BYTES < length b → LIMIT ≡ column_number c n b
     unfolding column_number first_of
@@ -85,6 +77,6 @@ module _ (d : Descriptor) (b : List ℕ) where
   bit-set h = simp (ne_eqb d.zero 0 h)
 
   pub by-column :
-      d.zero ≡ 0 → {c : Column} → c ≡ column_of d.kind d.encoding d.width → {r : ℕ} → r ≡ column_number c d.rows b → r ≡ described_number d b
+      d.zero ≡ 0 → {c : Option Column} → c ≡ column_of d.kind d.encoding d.width → {r : ℕ} → r ≡ column_number c d.rows b → r ≡ described_number d b
   unfolding described_number open_number
-  by-column h q p = rw (eq-eqb d.zero 0 h) (p ∙ ap (λ (x : Column). column_number x d.rows b) q)
+  by-column h q p = rw (eq-eqb d.zero 0 h) (p ∙ ap (λ (x : Option Column). column_number x d.rows b) q)

@@ -1,4 +1,5 @@
 -- The number that a dictionary block's rules give, by what the code read and tested. Assumes nothing.
+use Rattle.std.specs.Prelude.{Err}
 use Prim.Native.Nat.{ℕ, ◌+◌, ◌-◌, ◌≤◌}
 use native.Mathlib.Omega.{arith}
 use mathlib.Core.Bool.{true, false}
@@ -13,7 +14,6 @@ use Rattle.plain.specs.Plain.{plain_number}
 use Rattle.rle.specs.RunLength.{run_length_number}
 use Rattle.dict.specs.Dictionary.{i32, key_length, entries_in, key_part, entries_part, keys_number, dictionary_rules, dictionary_number}
 use Rattle.format.specs.declared.Encoding.TheVariants.{Dictionary}
-use Rattle.format.specs.declared.Found.TheVariants.{Refused}
 use Rattle.format.specs.Opening.{head_of}
 use Rattle.format.specs.Found.{found_by, inner_number, keys_asked, dictionary_asked}
 use Rattle.format.proofs.Answers.{first_one, broken-first, kept-first, found-refused}
@@ -27,7 +27,7 @@ keys-sound n b e z = record { rows = n; rules = sym e ∙ z }
 
 module _ (k : Kind) (n : ℕ) (b : List ℕ) where
   -- a refusal of a block whose rule 15 is asked gives its number
-  pub refused : {e : ℕ} → Refused e ≡ found_by (dictionary_asked true k n b) (head_of Dictionary b) → e ≡ dictionary_number k n b
+  pub refused : {e : ℕ} → Err e ≡ found_by (dictionary_asked true k n b) (head_of Dictionary b) → e ≡ dictionary_number k n b
   unfolding dictionary_asked dictionary_number keys_asked
   refused q = sym (found-refused (dictionary_asked true k n b) (head_of Dictionary b) q).0
 

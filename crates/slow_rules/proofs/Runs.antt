@@ -1,4 +1,5 @@
 -- The number that a run-length block's rules give, by what the code read and tested, over any inner rules. Assumes nothing.
+use Rattle.std.specs.Prelude.{Err}
 use Prim.Native.Nat.{ℕ, ◌+◌, ◌-◌, ◌≤◌}
 use native.Mathlib.Omega.{arith}
 use mathlib.Core.Bool.{not}
@@ -11,7 +12,6 @@ use Rattle.encode.specs.Bytes.{number}
 use Rattle.limits.specs.Limits.{MOST_ITEMS}
 use Rattle.limits.specs.Refusals.{SUM}
 use Rattle.plain.specs.Rules.{◌if◌, first_of}
-use Rattle.rle.specs.declared.RunHead.TheVariants.{Refused}
 use Rattle.rle.specs.RunLength.{runs_in, counts_length, counts_part, inner_part, walked, walk_number, run_length_number}
 use Rattle.rle.specs.Pieces.{head_found, number_by}
 use Rattle.rle.proofs.Opening.{head-number}
@@ -24,7 +24,7 @@ module _ (inner : ℕ → List ℕ → ℕ) (n : ℕ) (b : List ℕ) where
   no_block h e = e ∙ simp (eq-eqb (length b) 0 h)
 
   -- a head that is refused gives its number
-  pub head-refused : {e : ℕ} → Refused e ≡ head_found n b → e ≡ run_length_number inner n b
+  pub head-refused : {e : ℕ} → Err e ≡ head_found n b → e ≡ run_length_number inner n b
   unfolding number_by
   head-refused q = ap (number_by inner b) q ∙ sym (head-number inner n b)
 

@@ -9,17 +9,15 @@ use lib.Dec.{eqb}
 use lib.ListN.{length, get_or, take, drop}
 use lib.Seq.{drop-cons}
 use borrow.Author.Tests.{le-leb, lt-leb}
+use Rattle.std.specs.Prelude.{Option, Some, None}
 use Rattle.utf8.specs.Utf8.{due, never, from, within, forms, start_in, next, after, whole, is_text}
 use Rattle.slow_text.specs.declared.Due.{Due as Record}
-use Rattle.slow_text.specs.Due.{due_by, due_of}
+use Rattle.slow_text.specs.Due.{due_by, due_of, IsFew}
 
 -- ---- one byte more
 module _ (low high b : ℕ) where
   pub next-first : (left : ℕ) → left ≡ 0 → start_in forms b ≡ next (due_by left low high) b
   next-first left e = rw e
-
-  pub next-never : (left : ℕ) → left ≡ 4 → due_by left low high ≡ next (due_by left low high) b
-  next-never left e = rw e
 
   -- one, two or three are due
   pub next-out : (left : ℕ) → 0 < left → left < 4 → within (from low high) b ≡ false → never ≡ next (due_by left low high) b
@@ -46,24 +44,23 @@ module _ (low high b : ℕ) where
   in_both l h = simp (le-leb low b l, le-leb b high h)
 
 -- ---- the walk: i of the n bytes are passed, and what is left decides
-whole_of : (left low high : ℕ) → left ≤ 4 → eqb left 0 ≡ whole (due_by left low high)
+whole_of : (left low high : ℕ) → left ≤ 3 → eqb left 0 ≡ whole (due_by left low high)
 whole_of zero low high h = refl
 whole_of (suc zero) low high h = refl
 whole_of (suc (suc zero)) low high h = refl
 whole_of (suc (suc (suc zero))) low high h = refl
-whole_of (suc (suc (suc (suc zero)))) low high h = refl
-whole_of (suc (suc (suc (suc (suc left))))) low high h = absurd (omega arith)
+whole_of (suc (suc (suc (suc left)))) low high h = absurd (omega arith)
 
-pub record Going (s : List ℕ) (from n : ℕ) (d : Record) (i : ℕ) : Type 0 where
+pub record Going (s : List ℕ) (from n : ℕ) (d : Option Record) (i : ℕ) : Type 0 where
   pub rest : after (due_of d) (take (n - i) (drop (from + i) s)) ≡ after (due []) (take n (drop from s))
-  pub known : d.left ≤ 4
+  pub known : IsFew d
   pub sound : i ≤ n
 
-pub going_start : (s : List ℕ) (from n : ℕ) (d : Record) → d.left ≡ 0 → Going s from n d 0
-going_start s from n d e = let z : n - 0 ≡ n = omega arith in record { rest = rw (z, add-zero, e); known = omega arith; sound = omega arith }
+pub going_start : (s : List ℕ) (from n : ℕ) (d : Option Record) → (due_of d ≡ due []) × IsFew d → Going s from n d 0
+going_start s from n d e = let z : n - 0 ≡ n = omega arith in record { rest = rw (z, add-zero, e.0); known = e.1; sound = omega arith }
 
-module _ {s : List ℕ} {from n : ℕ} {d : Record} {i : ℕ} (w : Going s from n d i) where
-  pub going_step : i < n → from + n ≤ length s → {b : ℕ} {e : Record} → b ≡ get_or s (from + i) 0 → (due_of e ≡ next (due_of d) b) × (e.left ≤ 4) → Going s from n e (i + 1)
+module _ {s : List ℕ} {from n : ℕ} {d : Option Record} {i : ℕ} (w : Going s from n d i) where
+  pub going_step : i < n → from + n ≤ length s → {b : ℕ} {e : Option Record} → b ≡ get_or s (from + i) 0 → (due_of e ≡ next (due_of d) b) × IsFew e → Going s from n e (i + 1)
   unfolding after
   going_step l r {b} {e} is m =
       let j : n - i ≡ suc (n - (i + 1)) = omega arith in
@@ -75,8 +72,13 @@ module _ {s : List ℕ} {from n : ℕ} {d : Record} {i : ℕ} (w : Going s from 
         sound = omega arith;
       }
 
-  pub going_end : n ≤ i → eqb d.left 0 ≡ is_text (take n (drop from s))
-  unfolding after is_text
-  going_end h =
-      let z : n - i ≡ 0 = omega arith in
-      whole_of d.left d.low d.high w.known ∙ ap whole (rw z at w.rest)
+  module _ (h : n ≤ i) where
+    end : whole (due_of d) ≡ is_text (take n (drop from s))
+    unfolding after is_text
+    end = let z : n - i ≡ 0 = omega arith in ap whole (rw z at w.rest)
+
+    pub going_never : d ≡ None → false ≡ is_text (take n (drop from s))
+    going_never e = rw e at end
+
+    pub going_end : {x : Record} → d ≡ Some x → eqb x.left 0 ≡ is_text (take n (drop from s))
+    going_end {x} e = whole_of x.left x.low x.high (rw e at w.known) ∙ (rw e at end)

@@ -7,9 +7,10 @@ use mathlib.Core.Path.{◌≡◌, refl, sym, ap, ◌∙◌}
 use lib.Dec.{leb}
 use lib.ListN.{get_or, take, drop}
 use borrow.Author.Tests.{leb-true, le-leb, lt-leb}
+use Rattle.std.specs.Prelude.{Option}
 use Rattle.utf8.specs.Utf8.{Form, form, from, forms, Due, due, never, within, start_in}
 use Rattle.slow_text.specs.declared.Due.{Due as Record}
-use Rattle.slow_text.specs.Due.{due_by, due_of}
+use Rattle.slow_text.specs.Due.{due_of, IsFew}
 
 -- each of the rows ends at a number or below it; begins at a number or above it
 abbrev end_by : ℕ → List Form → Bool
@@ -50,10 +51,9 @@ module _ (b : ℕ) where
       → start_in (gs ++ (f ∷ fs)) b ≡ due f.behind
   in_row gs h f fs e l p q = past h gs (f ∷ fs) e l ∙ ap (λ (t : Bool). cond t (due f.behind) (start_in fs b)) (inside f p q)
 
--- the record that the code makes
-pub shown : {d : Record} {left low high : ℕ} {x : Due} → (d.left ≡ left) × (d.low ≡ low) × (d.high ≡ high) → left ≤ 4 → x ≡ due_by left low high
-    → (due_of d ≡ x) × (d.left ≤ 4)
-shown {d} e l h = (rw (e.0, e.1, e.2) (sym h), omega arith)
+-- what the code makes, for what it is to be
+pub shown : (d : Option Record) {x y : Due} → (due_of d ≡ y) × IsFew d → x ≡ y → (due_of d ≡ x) × IsFew d
+shown d e h = (e.0 ∙ sym h, e.1)
 
 -- ---- each row of the table, and what is of none
 abbrev row : ℕ → Form

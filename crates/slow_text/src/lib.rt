@@ -3,10 +3,10 @@
 
 ghost use Rattle.std.specs.Prelude.{◌≡◌, ◌+◌, ◌≤◌, length, take, drop};
 ghost use Rattle.utf8.specs.Utf8.{forms, start_in, next as next_due, is_text};
-ghost use Rattle.slow_text.specs.Due.{due_of};
+ghost use Rattle.slow_text.specs.Due.{due_by, due_of, IsFew};
 
 // What is due behind the bytes so far: so many bytes, of which the next lies between two numbers and the others are any that go on a
-// sequence; 4 stands for what nothing can mend.
+// sequence. No `Due` stands for what nothing can mend.
 #[derive(Clone, Copy)]
 struct Due {
     left: u8,
@@ -14,21 +14,22 @@ struct Due {
     high: u8,
 }
 
-fn asks(left: u8, low: u8, high: u8) -> Due
-    ensures { (result.left ≡ left) × (result.low ≡ low) × (result.high ≡ high) }
+fn asks(left: u8, low: u8, high: u8) -> Option<Due>
+    requires { left ≤ 3 }
+    ensures { (due_of result ≡ due_by left low high) × IsFew result }
 {
-    Due { left, low, high }
+    Some(Due { left, low, high })
 }
 
 // A sequence begins with a byte: the table's rows, one after another.
-fn begun(b: u8) -> Due
-    ensures { (due_of result ≡ start_in forms b) × (result.left ≤ 4) }
+fn begun(b: u8) -> Option<Due>
+    ensures { (due_of result ≡ start_in forms b) × IsFew result }
 {
     if b <= 0x7f {
         return asks(0, 0, 0);
     }
     if b < 0xc2 {
-        return asks(4, 0, 0);
+        return None;
     }
     if b <= 0xdf {
         return asks(1, 0x80, 0xbf);
@@ -54,25 +55,25 @@ fn begun(b: u8) -> Due
     if b == 0xf4 {
         return asks(3, 0x80, 0x8f);
     }
-    asks(4, 0, 0)
+    None
 }
 
 // One byte more.
-fn next(d: Due, b: u8) -> Due
-    requires { d.left ≤ 4 }
-    ensures { (due_of result ≡ next_due (due_of d) b) × (result.left ≤ 4) }
+fn next(before: Option<Due>, b: u8) -> Option<Due>
+    requires { IsFew before }
+    ensures { (due_of result ≡ next_due (due_of before) b) × IsFew result }
 {
+    let Some(d) = before else {
+        return None;
+    };
     if d.left == 0 {
         return begun(b);
     }
-    if d.left == 4 {
-        return d;
-    }
     if b < d.low {
-        return asks(4, 0, 0);
+        return None;
     }
     if d.high < b {
-        return asks(4, 0, 0);
+        return None;
     }
     asks(d.left - 1, 0x80, 0xbf)
 }
@@ -82,11 +83,12 @@ pub fn is_text(s: &[u8], from: usize, n: usize) -> bool
     requires { from + n ≤ length s.now }
     ensures { result ≡ is_text (take n (drop from s.now)) }
 {
-    let mut d = asks(0, 0, 0);
-    let mut i = 0;
-    while i < n {
-        d = next(d, s[from + i]);
-        i += 1;
+    let mut due = asks(0, 0, 0);
+    for i in 0..n {
+        due = next(due, s[from + i]);
     }
+    let Some(d) = due else {
+        return false;
+    };
     d.left == 0
 }

@@ -9,7 +9,7 @@ use lib.ListN.{length, take, drop, length-append, length-drop, take-append-drop}
 use lib.Seq.{take_at, drop-append-add, length-take-le}
 use borrow.Author.Tests.{le-leb, leb-true}
 use Rattle.encode.specs.Bytes.{low_first, number}
-use Rattle.encode.specs.Kinds.{width_of, blob, string}
+use Rattle.encode.specs.Kinds.{blob, string}
 use Rattle.encode.specs.declared.Kind.{Kind}
 use Rattle.encode.specs.declared.Kind.TheVariants.{Fixed, Char, Blob}
 use Rattle.encode.proofs.Bools.{clash, both}

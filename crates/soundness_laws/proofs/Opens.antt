@@ -1,4 +1,5 @@
 -- 01, "Sound blocks": opening gives 0 exactly for a sound block, of every kind and encoding, with any numbers and any bytes. Assumes nothing.
+use Rattle.std.specs.Prelude.{Option, Some, None}
 use Prim.Native.Nat.{ℕ}
 use native.Mathlib.Omega.{arith}
 use mathlib.Core.List.{List}
@@ -9,7 +10,6 @@ use Rattle.nullable.specs.Nullable.{nullable_number}
 use Rattle.format.specs.declared.Encoding.{Encoding}
 use Rattle.format.specs.declared.Encoding.TheVariants.{Plain, Nullable, RunLength, RunLengthNullable, Dictionary}
 use Rattle.format.specs.declared.Column.{Column}
-use Rattle.format.specs.declared.Column.TheVariants.{Of, Unknown}
 use Rattle.format.specs.Blocks.{column_of}
 use Rattle.format.specs.Opening.{rules_of, column_number, open_number}
 use Rattle.format.proofs.Sound.{column-sound, column-rules}
@@ -41,7 +41,7 @@ module _ (kind encoding width n : ℕ) (b : List ℕ) where
   pub sound-opens : Sound kind encoding width n b → open_number kind encoding width n b ≡ 0
   unfolding open_number
   sound-opens s =
-      ap (λ (c : Column). column_number c n b) s.pair
+      ap (λ (c : Option Column). column_number c n b) s.pair
       ∙ column-rules s.of_kind s.in_encoding n b s.size s.rows
       ∙ parts-open s.of_kind s.in_encoding n b s.parts
 
@@ -50,8 +50,8 @@ module _ (kind encoding width n : ℕ) (b : List ℕ) where
   unfolding open_number column_number
   opens-sound z = by (column_of kind encoding width) refl
     where
-      by : (c : Column) → column_of kind encoding width ≡ c → Sound kind encoding width n b
-      by Unknown e = absurd (omega (arith, ap (λ (c : Column). column_number c n b) (sym e) ∙ z))
-      by (Of k i) e =
-          let w = column-sound k i n b (ap (λ (c : Column). column_number c n b) (sym e) ∙ z) in
-          record { of_kind = k; in_encoding = i; pair = e; size = w.size; rows = w.most; parts = opens-parts k i n b w.rules }
+      by : (c : Option Column) → column_of kind encoding width ≡ c → Sound kind encoding width n b
+      by None e = absurd (omega (arith, ap (λ (c : Option Column). column_number c n b) (sym e) ∙ z))
+      by (Some x) e =
+          let w = column-sound x.kind x.encoding n b (ap (λ (c : Option Column). column_number c n b) (sym e) ∙ z) in
+          record { of_kind = x.kind; in_encoding = x.encoding; pair = e; size = w.size; rows = w.most; parts = opens-parts x.kind x.encoding n b w.rules }

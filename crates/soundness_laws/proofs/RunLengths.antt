@@ -1,4 +1,5 @@
 -- Run-length blocks over any inner block: the parts are as the layout says exactly when no rule refuses them. Assumes nothing.
+use Rattle.std.specs.Prelude.{Some, Ok}
 use Prim.Native.Nat.{ℕ, ◌+◌, ◌-◌, ◌≤◌, ◌<◌}
 use native.Mathlib.Omega.{arith}
 use mathlib.Core.List.{List, ◌++◌}
@@ -8,9 +9,8 @@ use lib.ListN.{length, take, drop, length-drop}
 use lib.Seq.{length-take-le}
 use Rattle.limits.specs.Limits.{MOST_ITEMS}
 use Rattle.encode.specs.Bytes.{number}
-use Rattle.rle.specs.declared.RunHead.TheVariants.{Runs as HeadRuns}
 use Rattle.rle.specs.RunLength.{runs_in, counts_length, counts_part, inner_part, walked, run_length_number}
-use Rattle.rle.specs.Pieces.{head_found, number_by}
+use Rattle.rle.specs.Pieces.{head_found, number_by, run_head}
 use Rattle.rle.proofs.Opening.{head-number, sum-right}
 use Rattle.format.proofs.Sound.{NoRuns, SomeRuns, SoundRuns, runs-sound}
 use Rattle.soundness_laws.specs.Sound.{written, Runs, RunsOver}
@@ -47,7 +47,7 @@ module _ {Inner : ℕ → List ℕ → Type 0} {n : ℕ} {b : List ℕ} (r : Run
   long : length b ≡ 8 + length counted + length r.inner
   long = length-parts laid
 
-  head-told : HeadRuns (length r.counts) (length counted) ≡ head_found n b
+  head-told : Ok (Some (run_head (length r.counts) (length counted))) ≡ head_found n b
   unfolding runs_in counts_length counts_part
   head-told =
       let m : 8 + length counted - 8 ≡ length counted = omega arith in

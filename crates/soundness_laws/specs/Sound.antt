@@ -1,14 +1,13 @@
 -- 01, "Layouts" and "Sound blocks": what a sound block is, by the parts that it consists of and what holds of them, for every kind and encoding. There
 -- are no refusal numbers here and no order of testing. Assumes nothing.
-use Rattle.std.specs.Prelude.{ℕ, ◌+◌, ◌*◌, ◌<◌, ◌≤◌, true, false, ◌≡◌, ◌⊎◌, List, [], ◌∷◌, ◌++◌, map, ℤ, length}
+use Rattle.std.specs.Prelude.{ℕ, ◌+◌, ◌*◌, ◌<◌, ◌≤◌, true, false, ◌≡◌, ◌⊎◌, List, [], ◌∷◌, ◌++◌, map, ℤ, length, Some}
 use Rattle.limits.specs.Limits.{MOST_ITEMS, MOST_ENTRIES, MOST_BYTES}
 use Rattle.encode.specs.Bytes.{Order, low_first, high-first, number_of}
 use Rattle.encode.specs.Kinds.{width_of, string}
 use Rattle.encode.specs.declared.Primitive.TheVariants.{I32}
 use Rattle.encode.specs.declared.Kind.{Kind}
 use Rattle.encode.specs.declared.Kind.TheVariants.{Fixed, Char, Blob}
-use Rattle.varint.specs.declared.Count.TheVariants.{Number}
-use Rattle.varint.specs.Varint.{count_of}
+use Rattle.varint.specs.Varint.{count_of, counted}
 use Rattle.plain.specs.Each.{Each}
 use Rattle.utf8.specs.Sequences.{Sequences}
 use Rattle.plain.specs.Rows.{bytes_in}
@@ -17,8 +16,7 @@ use Rattle.nullable.specs.Nullable.{bitmap_length}
 use Rattle.dict.specs.Dictionary.{i32, null_key, entry_key}
 use Rattle.format.specs.declared.Encoding.{Encoding}
 use Rattle.format.specs.declared.Encoding.TheVariants.{Plain, Nullable, RunLength, RunLengthNullable, Dictionary}
-use Rattle.format.specs.declared.Column.TheVariants.{Of}
-use Rattle.format.specs.Blocks.{column_of}
+use Rattle.format.specs.Blocks.{column_of, column}
 use Rattle.format.specs.Opening.{most_rows}
 
 -- ---- numbers in a block
@@ -39,7 +37,7 @@ Field width order w = (length w.bytes ≡ width) × (number_of order w.bytes ≡
 
 -- a run count: a varint of at most 32 bits and five bytes, no longer than needed, above 0
 abbrev pub RunCount : Written → Type 0
-RunCount w = (count_of w.bytes ≡ Number w.value (length w.bytes)) × (0 < w.value)
+RunCount w = (count_of w.bytes ≡ counted w.value (length w.bytes)) × (0 < w.value)
 
 unfoldable pub total : List ℕ → ℕ
 total [] = 0
@@ -142,7 +140,7 @@ Parts k Dictionary n b = KeysAndEntries k n b
 pub record Sound (kind encoding width n : ℕ) (b : List ℕ) : Type 0 where
   pub of_kind : Kind
   pub in_encoding : Encoding
-  pub pair : column_of kind encoding width ≡ Of of_kind in_encoding
+  pub pair : column_of kind encoding width ≡ Some (column of_kind in_encoding)
   pub size : length b ≤ MOST_BYTES
   pub rows : n ≤ most_rows in_encoding
   pub parts : Parts of_kind in_encoding n b

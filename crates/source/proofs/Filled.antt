@@ -1,17 +1,17 @@
 -- The loops that write one element a row, values or flags: what each row done has given stands in the area, and there is room for the rows of the
 -- next piece. Assumes nothing.
-use Prim.Native.Nat.{ℕ, zero, suc, ◌+◌, ◌-◌, ◌*◌, ◌≤◌, ◌<◌}
+use Prim.Native.Nat.{ℕ, zero, suc, ◌+◌, ◌-◌, ◌≤◌, ◌<◌}
 use native.Mathlib.Omega.{arith}
 use mathlib.Core.Bool.{Bool}
-use mathlib.Core.List.{List, ◌++◌, map, map-append}
+use mathlib.Core.List.{List, map, map-append}
 use mathlib.Core.Path.{◌≡◌, refl, ap, ◌∙◌}
 use lib.ListN.{length, replicate, length-map, length-append, length-replicate}
 use lib.Seq.{sets, length-sets}
+use Rattle.std.specs.Prelude.{Option, Some}
 use Rattle.area.proofs.Laws.{sets-append}
 use Rattle.rle.specs.declared.Spot.{Spot}
 use Rattle.rle.specs.declared.Piece.{Piece}
-use Rattle.rle.specs.declared.Piece.TheVariants.{Rows}
-use Rattle.rle.specs.Pieces.{piece_in, steps_in, step_runs}
+use Rattle.rle.specs.Pieces.{run_piece, piece_in, steps_in, step_runs}
 use Rattle.rle.proofs.Folds.{map-replicate}
 use Rattle.source.specs.Rows.{StartsBy}
 use Rattle.source.proofs.Progress.{Progress, progress_start, progress-all, progress-on, progress-place}
@@ -41,7 +41,7 @@ module _ {A : Type 0} where
     pub filled-end : left ≤ 0 → area ≡ sets area₀ 0 (map g (step_runs (steps_in coded runs counts n from)))
     filled-end h = rw (progress-all w.progress h) w.same
 
-    module _ (l : 0 < left) {p : Piece} (e : p ≡ piece_in coded runs counts at left) {k : ℕ} {t : Spot} (b : p ≡ Rows k t) where
+    module _ (l : 0 < left) {p : Option Piece} (e : p ≡ piece_in coded runs counts at left) {k : ℕ} {t : Spot} (b : p ≡ Some (run_piece k t)) where
       pub filled-room : n ≤ length area₀ → to + k ≤ length area
       filled-room h = omega (arith, h, filled-long, progress-place w.progress l e b w.place)
 

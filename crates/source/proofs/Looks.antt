@@ -5,50 +5,52 @@ use mathlib.Core.Bool.{Bool, true, false, cond}
 use mathlib.Core.List.{List}
 use mathlib.Core.Path.{◌≡◌, refl}
 use lib.Dec.{eqb}
+use Rattle.std.specs.Prelude.{Option, Some, None}
 use borrow.Author.Tests.{eq-eqb, ne_eqb, eqb-true, eqb-false}
 use Rattle.rle.specs.declared.Spot.{Spot}
 use Rattle.rle.specs.declared.Piece.{Piece}
-use Rattle.rle.specs.declared.Piece.TheVariants.{Rows, Stuck as NoPiece}
+use Rattle.rle.specs.Pieces.{run_piece}
 use Rattle.source.specs.declared.Source.{Source}
 use Rattle.source.specs.declared.Look.{Look}
-use Rattle.source.specs.declared.Look.TheVariants.{Item, Wrong}
-use Rattle.source.specs.Rows.{seen_by, sees_by, look_by}
+use Rattle.source.specs.Rows.{seen_by, sees_by, look, look_by}
 use Rattle.source.proofs.AtPlace.{sees-most}
 
 module _ (s : Source) (marks : List ℕ) (i : ℕ) where
   -- ---- the returns of `seen_run`
-  module _ {x q : Piece} (e : x ≡ q) where
-    pub look-stuck : x ≡ NoPiece → Wrong ≡ look_by s marks i q
+  module _ {x q : Option Piece} (e : x ≡ q) where
+    pub look-stuck : x ≡ None → None ≡ look_by s marks i q
     unfolding look_by
     look-stuck b = rw (← e, b)
 
-    module _ {k : ℕ} {t : Spot} (b : x ≡ Rows k t) where
-      pub look_none : k ≡ 0 → Item 0 k t ≡ look_by s marks i q
+    module _ {k : ℕ} {t : Spot} (b : x ≡ Some (run_piece k t)) where
+      pub look_none : k ≡ 0 → Some (look 0 k t) ≡ look_by s marks i q
       unfolding look_by
       look_none z = rw (← e, b) (simp (eq-eqb k 0 z))
 
       module _ (z : k ≡ 0 → ⊥) where
-        pub look-wrong : sees_by s marks i ≡ false → Wrong ≡ look_by s marks i q
+        pub look-wrong : sees_by s marks i ≡ false → None ≡ look_by s marks i q
         unfolding look_by
         look-wrong h = rw (← e, b, h) (simp (ne_eqb k 0 z))
 
-        pub look-item : {seen : ℕ} → (sees_by s marks i ≡ true) × (seen ≡ seen_by s.marks marks i) → Item seen k t ≡ look_by s marks i q
+        pub look-item : {seen : ℕ} → (sees_by s marks i ≡ true) × (seen ≡ seen_by s.marks marks i) → Some (look seen k t) ≡ look_by s marks i q
         unfolding look_by
         look-item h = rw (← e, b, h.0, h.1) (simp (ne_eqb k 0 z))
 
   -- ---- what its answer says
-  abbrev pub Tells : Piece → Look → Type 0
-  Tells q (Item seen k t) = (q ≡ Rows k t) × (seen ≤ s.items) × (0 < k → (sees_by s marks i ≡ true) × (seen ≡ seen_by s.marks marks i)) × (0 < seen → 0 < k)
-  Tells (Rows k t) Wrong = (0 < k) × (sees_by s marks i ≡ false)
-  Tells NoPiece Wrong = Unit
+  abbrev pub Tells : Option Piece → Option Look → Type 0
+  Tells q (Some x) =
+      (q ≡ Some (run_piece x.rows x.next)) × (x.seen ≤ s.items) × (0 < x.rows → (sees_by s marks i ≡ true) × (x.seen ≡ seen_by s.marks marks i))
+      × (0 < x.seen → 0 < x.rows)
+  Tells (Some p) None = (0 < p.rows) × (sees_by s marks i ≡ false)
+  Tells None None = Unit
 
-  pub tells : (q : Piece) → Tells q (look_by s marks i q)
+  pub tells : (q : Option Piece) → Tells q (look_by s marks i q)
   unfolding look_by
-  tells NoPiece = tt
-  tells (Rows k t) = go (eqb k 0) refl (sees_by s marks i) refl
+  tells None = tt
+  tells (Some p) = go (eqb p.rows 0) refl (sees_by s marks i) refl
     where
-      go : (z : Bool) → eqb k 0 ≡ z → (b : Bool) → sees_by s marks i ≡ b
-          → Tells (Rows k t) (cond z (Item 0 k t) (cond b (Item (seen_by s.marks marks i) k t) Wrong))
-      go true h b g = let n : k ≡ 0 = eqb-true k 0 h in (refl, omega arith, (λ l. absurd (omega arith)), (λ l. absurd (omega arith)))
-      go false h true g = let n = eqb-false k 0 h in (refl, sees-most s marks i g, (λ l. (g, refl)), (λ l. omega arith))
-      go false h false g = let n = eqb-false k 0 h in (omega arith, g)
+      go : (z : Bool) → eqb p.rows 0 ≡ z → (b : Bool) → sees_by s marks i ≡ b
+          → Tells (Some p) (cond z (Some (look 0 p.rows p.next)) (cond b (Some (look (seen_by s.marks marks i) p.rows p.next)) None))
+      go true h b g = let n : p.rows ≡ 0 = eqb-true p.rows 0 h in (refl, omega arith, (λ l. absurd (omega arith)), (λ l. absurd (omega arith)))
+      go false h true g = let n = eqb-false p.rows 0 h in (refl, sees-most s marks i g, (λ l. (g, refl)), (λ l. omega arith))
+      go false h false g = let n = eqb-false p.rows 0 h in (omega arith, g)

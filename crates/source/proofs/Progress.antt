@@ -5,13 +5,13 @@ use mathlib.Core.Bool.{Bool, true, false}
 use mathlib.Core.List.{List, [], ◌++◌, append-nil}
 use mathlib.Core.Path.{◌≡◌, refl, sym, ap, subst, ◌∙◌}
 use lib.ListN.{length, replicate, length-append, length-replicate}
+use Rattle.std.specs.Prelude.{Option, Some, None}
 use Rattle.limits.specs.Limits.{MOST_ITEMS}
 use Rattle.plain.specs.Plain.{all_of}
 use Rattle.rle.specs.declared.Spot.{Spot}
 use Rattle.rle.specs.declared.Piece.{Piece}
-use Rattle.rle.specs.declared.Piece.TheVariants.{Rows, Stuck}
 use Rattle.rle.specs.Stepping.{Steps, stuck, rows, before}
-use Rattle.rle.specs.Pieces.{piece_in, steps_in, Fine, step_runs}
+use Rattle.rle.specs.Pieces.{run_piece, piece_in, steps_in, Fine, step_runs}
 use Rattle.rle.proofs.Steps.{before-nil, before-before, steps-zero, coded-room}
 use Rattle.rle.proofs.Pieces.{piece-stuck, piece-rows, piece-most, piece-less, piece_inside, piece-alone}
 use Rattle.source.specs.Rows.{StartsBy, Good, Writes}
@@ -46,7 +46,7 @@ runs-are e = rw e
 
 -- ---- where reading starts, and how a piece leads on
 module _ (runs : ℕ) (counts : List ℕ) (s : Spot) (left : ℕ) (l : 0 < left) where
-  pub starts-on : (coded : Bool) {k : ℕ} {t : Spot} → piece_in coded runs counts s left ≡ Rows k t → StartsBy coded s.run runs left → StartsBy coded t.run runs (left - k)
+  pub starts-on : (coded : Bool) {k : ℕ} {t : Spot} → piece_in coded runs counts s left ≡ Some (run_piece k t) → StartsBy coded s.run runs left → StartsBy coded t.run runs (left - k)
   unfolding StartsBy
   starts-on true e h = (piece_inside true runs counts s left l e coded-room).1
   starts-on false {k} {t} e h =
@@ -78,14 +78,14 @@ module _ {coded : Bool} {runs : ℕ} {counts : List ℕ} {n : ℕ} {from at : Sp
   pub progress-all : left ≤ 0 → step_runs (steps_in coded runs counts n from) ≡ w.done
   progress-all h = runs-are (progress-end h)
 
-  module _ (l : 0 < left) {p : Piece} (e : p ≡ piece_in coded runs counts at left) where
-    pub progress-stuck : p ≡ Stuck → steps_in coded runs counts n from ≡ stuck
+  module _ (l : 0 < left) {p : Option Piece} (e : p ≡ piece_in coded runs counts at left) where
+    pub progress-stuck : p ≡ None → steps_in coded runs counts n from ≡ stuck
     progress-stuck b = w.whole ∙ rw (piece-stuck coded runs counts at left l (sym e ∙ b)) (before-stuck w.done)
 
-    pub progress-never : Fine (steps_in coded runs counts n from) → p ≡ Stuck → ⊥
+    pub progress-never : Fine (steps_in coded runs counts n from) → p ≡ None → ⊥
     progress-never f b = not_stuck f (progress-stuck b)
 
-    module _ {k : ℕ} {t : Spot} (b : p ≡ Rows k t) where
+    module _ {k : ℕ} {t : Spot} (b : p ≡ Some (run_piece k t)) where
       -- so many rows, each of this run, and then the rest
       pub whole-on : steps_in coded runs counts n from ≡ before (w.done ++ replicate k at.run) (steps_in coded runs counts (left - k) t)
       whole-on = w.whole ∙ rw (piece-rows coded runs counts at left l (sym e ∙ b)) (before-before w.done (replicate k at.run) _)
@@ -132,16 +132,16 @@ pub progress-piece : {coded : Bool} {runs : ℕ} {counts : List ℕ} {n : ℕ} {
 unfolding Good
 progress-piece {coded} {runs} {counts} {n} {from} {at} {left} w l {good} r = go (piece_in coded runs counts at left) refl
   where
-    go : (p : Piece) → p ≡ piece_in coded runs counts at left → Good good at.run p
-    go Stuck e = absurd (progress-never w l e r.fine refl)
-    go (Rows k t) e = progress-good w l e refl r
+    go : (p : Option Piece) → p ≡ piece_in coded runs counts at left → Good good at.run p
+    go None e = absurd (progress-never w l e r.fine refl)
+    go (Some x) e = progress-good w l e refl r
 
 -- what a good one tells
-module _ (good : ℕ → Bool) (i : ℕ) {q p : Piece} (g : Good good i q) (e : p ≡ q) where
-  pub good-there : p ≡ Stuck → ⊥
+module _ (good : ℕ → Bool) (i : ℕ) {q p : Option Piece} (g : Good good i q) (e : p ≡ q) where
+  pub good-there : p ≡ None → ⊥
   unfolding Good
   good-there b = subst (Good good i) (sym e ∙ b) g
 
-  pub good-shows : {k : ℕ} {t : Spot} → p ≡ Rows k t → 0 < k → good i ≡ true
+  pub good-shows : {k : ℕ} {t : Spot} → p ≡ Some (run_piece k t) → 0 < k → good i ≡ true
   unfolding Good
   good-shows b = subst (Good good i) (sym e ∙ b) g

@@ -1,6 +1,6 @@
 -- For the code, which serves every encoding from three parts of a block: the counts of its runs, its marks (none, a bit a row, a key a run) and its
 -- items. Assumes nothing.
-use Rattle.std.specs.Prelude.{ℕ, suc, ◌+◌, ◌*◌, ◌^◌, ◌≤◌, ◌<◌, ◌≡◌, Bool, true, false, cond, ◌&&◌, List, [], ◌∷◌, ltb, leb, eqb, ℤ, length}
+use Rattle.std.specs.Prelude.{ℕ, suc, ◌+◌, ◌*◌, ◌≤◌, ◌<◌, ◌≡◌, Bool, true, false, cond, ◌&&◌, List, [], ◌∷◌, ltb, leb, eqb, ℤ, length, Option, Some, None}
 use Rattle.limits.specs.Limits.{MOST_ITEMS, MOST_BYTES, MOST_GIVEN}
 use Rattle.encode.specs.declared.Kind.{Kind}
 use Rattle.encode.specs.declared.Kind.TheVariants.{Fixed, Char, Blob}
@@ -9,7 +9,6 @@ use Rattle.plain.specs.Plain.{all_of, least_bytes}
 use Rattle.nullable.specs.Nullable.{bit_at, presence}
 use Rattle.rle.specs.declared.Spot.{Spot}
 use Rattle.rle.specs.declared.Piece.{Piece}
-use Rattle.rle.specs.declared.Piece.TheVariants.{Rows as SomeRows, Stuck as NoPiece}
 use Rattle.rle.specs.Stepping.{Steps, stuck, rows}
 use Rattle.rle.specs.Pieces.{piece_in, steps_in, Fine, step_runs}
 use Rattle.dict.specs.Dictionary.{slot_at, entry_row, entry_good}
@@ -17,11 +16,7 @@ use Rattle.source.specs.declared.Marks.{Marks}
 use Rattle.source.specs.declared.Marks.TheVariants.{Bare, Bits, Keys}
 use Rattle.source.specs.declared.Source.{Source}
 use Rattle.source.specs.declared.Look.{Look}
-use Rattle.source.specs.declared.Look.TheVariants.{Item, Wrong}
-use Rattle.source.specs.declared.Weight.{Weight}
-use Rattle.source.specs.declared.Weight.TheVariants.{Sum, Broken}
 use Rattle.source.specs.declared.Weighed.{Weighed}
-use Rattle.source.specs.declared.Weighed.TheVariants.{Total, Stuck}
 
 -- ---- the row of place i: an item or a run
 -- which item it shows, from 1 on; 0 is null
@@ -74,9 +69,14 @@ unfoldable pub sees_by : Source → List ℕ → ℕ → Bool
 sees_by s marks i = ltb i (most_by s.marks s.items s.runs) && leb (seen_by s.marks marks i) s.items
 
 -- the first look at some rows of place i, and at their item; at none, where there are no rows
-unfoldable pub look_by : Source → List ℕ → ℕ → Piece → Look
-look_by s marks i NoPiece = Wrong
-look_by s marks i (SomeRows k t) = cond (eqb k 0) (Item 0 k t) (cond (sees_by s marks i) (Item (seen_by s.marks marks i) k t) Wrong)
+abbrev pub look : ℕ → ℕ → Spot → Look
+look seen k t = record { seen = seen; rows = k; next = t }
+
+unfoldable pub look_by : Source → List ℕ → ℕ → Option Piece → Option Look
+look_by s marks i None = None
+look_by s marks i (Some p) =
+    cond (eqb p.rows 0) (Some (look 0 p.rows p.next))
+    (cond (sees_by s marks i) (Some (look (seen_by s.marks marks i) p.rows p.next)) None)
 
 -- the parts are long enough for their items, bits and keys
 unfoldable pub MarkBytes : Marks → ℕ → ℕ → ℕ → Type 0
@@ -100,7 +100,7 @@ abbrev pub Starts : Source → Spot → ℕ → Type 0
 Starts s from n = StartsBy s.coded from.run s.runs n
 
 -- some rows of the next run, and the next n rows
-abbrev pub piece_of : Source → List ℕ → Spot → ℕ → Piece
+abbrev pub piece_of : Source → List ℕ → Spot → ℕ → Option Piece
 piece_of s counts at left = piece_in s.coded s.runs counts at left
 
 abbrev pub steps_of : Source → List ℕ → ℕ → Spot → Steps
@@ -115,18 +115,21 @@ sum_of f [] = 0
 sum_of f (i ∷ is) = f i + sum_of f is
 
 -- an item that is looked at, counted from 1 on: its bytes, if it is good
-unfoldable pub weight_of : Kind → ℕ → List ℕ → ℕ → Weight
-weight_of k n items slot = cond (entry_good k n items slot) (Sum (length (text_of k n items slot))) Broken
+unfoldable pub weight_of : Kind → ℕ → List ℕ → ℕ → Option ℕ
+weight_of k n items slot = cond (entry_good k n items slot) (Some (length (text_of k n items slot))) None
 
-unfoldable pub weighed_by : (ℕ → Bool) → (ℕ → ℕ) → Steps → Weighed
-weighed_by p f stuck = Stuck
-weighed_by p f (rows is t) = cond (all_of p is) (Total (capped (sum_of f is)) t) Stuck
+abbrev pub weighed : ℕ → Spot → Weighed
+weighed bytes t = record { bytes = bytes; next = t }
+
+unfoldable pub weighed_by : (ℕ → Bool) → (ℕ → ℕ) → Steps → Option Weighed
+weighed_by p f stuck = None
+weighed_by p f (rows is t) = cond (all_of p is) (Some (weighed (capped (sum_of f is)) t)) None
 
 -- ---- writing wants the rows to be there and good, and room for them
 -- some rows of run i
-unfoldable pub Good : (ℕ → Bool) → ℕ → Piece → Type 0
-Good good i NoPiece = ⊥
-Good good i (SomeRows k t) = 0 < k → good i ≡ true
+unfoldable pub Good : (ℕ → Bool) → ℕ → Option Piece → Type 0
+Good good i None = ⊥
+Good good i (Some p) = 0 < p.rows → good i ≡ true
 
 pub record Writes (good : ℕ → Bool) (steps : Steps) (n room : ℕ) : Type 0 where
   pub fine : Fine steps

@@ -3,18 +3,18 @@
 // bytes and the flag of an item. `weigh`, `fixed_rows` and `byte_rows` have the loops.
 #![tactic(auto)]
 
-ghost use Rattle.std.specs.Prelude.{◌≡◌, true, ◌+◌, ◌-◌, ◌<◌, ◌≤◌, length, take, drop, replicate};
+ghost use Rattle.std.specs.Prelude.{◌≡◌, true, ◌+◌, ◌-◌, ◌<◌, ◌≤◌, length, take, drop, replicate, Some};
 ghost use Rattle.std.proofs.lemmas.List.Edits.{sets};
 ghost use Rattle.limits.specs.Limits.{MOST_ITEMS};
 ghost use Rattle.encode.specs.Kinds.{blob};
 ghost use Rattle.encode.specs.declared.Kind.TheVariants.{Char};
 ghost use Rattle.plain.specs.Plain.{least_bytes, ends_good};
-ghost use Rattle.rle.specs.declared.Piece.TheVariants.{Rows};
+ghost use Rattle.rle.specs.Pieces.{run_piece};
 ghost use Rattle.source.specs.Rows.{shown_by, seen_by, most_by, text_of, good_by, Ready, piece_of, look_by, Good};
 
 use encode::Kind;
 use plain::Range;
-use rle::{Piece, Spot};
+use rle::Spot;
 
 // What stands beside the items: nothing, a bit a row, or a key a run.
 #[derive(Clone, Copy)]
@@ -34,31 +34,21 @@ pub struct Source {
     pub coded: bool,
 }
 
-// The bytes of an item; or it is wrong.
+// The bytes of the next rows, of which one more than a read can give stands for all that are more, and the place after them. There is
+// none where a count, an item or a key is wrong.
 #[derive(Clone, Copy)]
-pub enum Weight {
-    Sum(usize),
-    Broken,
-}
-
-// The bytes of the next rows, of which one more than a read can give stands for all that are more, and the place after them; or a
-// count, an item or a key is wrong.
-#[derive(Clone, Copy)]
-pub enum Weighed {
-    Total { bytes: usize, next: Spot },
-    Stuck,
+pub struct Weighed {
+    pub bytes: usize,
+    pub next: Spot,
 }
 
 // A run that is looked at: its item, from 1 on (0 is none: a null key has none, and a run that was used up is not looked at),
-// how many rows, and the place after them; or the count or the key is wrong.
+// how many rows, and the place after them. There is none where the count or the key is wrong.
 #[derive(Clone, Copy)]
-pub enum Look {
-    Item {
-        seen: usize,
-        rows: usize,
-        next: Spot,
-    },
-    Wrong,
+pub struct Look {
+    pub seen: usize,
+    pub rows: usize,
+    pub next: Spot,
 }
 
 // A run of which rows are written: its item, from 1 on (0 is null, and stands for a run that was used up too), how many
@@ -133,26 +123,32 @@ pub fn shown_of(s: Source, marks: &[u8], items: &[u8], i: usize, seen: usize) ->
 // ---- the next run
 
 // The next run that is looked at: its item is there.
-pub fn seen_run(s: Source, counts: &[u8], marks: &[u8], items: &[u8], at: Spot, left: usize) -> Look
+pub fn seen_run(
+    s: Source,
+    counts: &[u8],
+    marks: &[u8],
+    items: &[u8],
+    at: Spot,
+    left: usize,
+) -> Option<Look>
     requires { Ready s marks.now items.now × (at.run ≤ MOST_ITEMS) }
     ensures { result ≡ look_by s marks.now at.run (piece_of s counts.now at left) }
 {
-    let piece = rle::take_piece(s.coded, counts, s.runs, at, left);
-    let Piece::Rows { rows, next } = piece else {
-        return Look::Wrong;
-    };
+    let piece = rle::take_piece(s.coded, counts, s.runs, at, left)?;
+    let rows = piece.rows;
+    let next = piece.next;
     if rows == 0 {
-        return Look::Item {
+        return Some(Look {
             seen: 0,
             rows,
             next,
-        };
+        });
     }
     let seen = seen_at(s, marks, items, at.run);
     if s.items < seen {
-        return Look::Wrong;
+        return None;
     }
-    Look::Item { seen, rows, next }
+    Some(Look { seen, rows, next })
 }
 
 // The next run of which rows are written. The first pass has found it there and good.
@@ -165,18 +161,20 @@ pub fn shown_run(
     left: usize,
 ) -> ShownRun
     requires { Ready s marks.now items.now × (at.run ≤ MOST_ITEMS) × Good (good_by s marks.now items.now) at.run (piece_of s counts.now at left) }
-    ensures { (piece_of s counts.now at left ≡ Rows result.rows result.next)
+    ensures { (piece_of s counts.now at left ≡ Some (run_piece result.rows result.next))
         × (0 < result.rows → result.slot ≡ shown_by s.marks marks.now at.run) × (result.slot ≤ s.items)
         × (0 < result.slot → ends_good s.kind s.items items.now (result.slot - 1) ≡ true) }
 {
-    let piece = rle::take_piece(s.coded, counts, s.runs, at, left);
-    let Piece::Rows { rows, next } = piece else {
+    let taken = rle::take_piece(s.coded, counts, s.runs, at, left);
+    let Some(piece) = taken else {
         return ShownRun {
             slot: 0,
             rows: 0,
             next: at,
         };
     };
+    let rows = piece.rows;
+    let next = piece.next;
     if rows == 0 {
         return ShownRun {
             slot: 0,
@@ -227,5 +225,5 @@ pub fn fill_flags(flags: &mut [u8], to: usize, rows: usize, flag: u8)
         flags[to] = flag;
         return;
     }
-    area::fill_bytes(flags, to, rows, flag);
+    area::fill(flags, to, rows, flag);
 }

@@ -16,8 +16,7 @@ use Rattle.format.specs.declared.Encoding.TheVariants.{Plain, Nullable, RunLengt
 use Rattle.needs.specs.declared.Counted.{Counted}
 use Rattle.needs.specs.declared.Room.{Room}
 use Rattle.needs.proofs.Wrong.{Right}
-use Rattle.step.specs.declared.Next.{Next}
-use Rattle.step.specs.Counting.{growth, grown, next_of, with_entries, counted_by}
+use Rattle.step.specs.Counting.{Next, growth, grown, next_of, with_entries, counted_by}
 use Rattle.needs.specs.Needs.{coded, keyed, inner_bytes, finished_bytes, past_limits, too_short}
 use Rattle.needs.specs.Tests.{rows_by, runs_by}
 use Rattle.encode.proofs.Bools.{clash as apart}

@@ -1,13 +1,13 @@
 -- 01, "Building": the counted numbers with one row more, for any numbers. Assumes nothing.
-use Rattle.std.specs.Prelude.{ℕ, ◌+◌, ◌-◌, Bool, cond, not, ◌&&◌, length}
+use Rattle.std.specs.Prelude.{ℕ, ◌+◌, ◌-◌, Bool, cond, not, ◌&&◌, Result, Ok, Err, length}
 use Rattle.encode.specs.declared.Kind.{Kind}
 use Rattle.varint.specs.Varint.{spelling}
 use Rattle.format.specs.declared.Encoding.{Encoding}
 use Rattle.needs.specs.declared.Counted.{Counted}
 use Rattle.needs.specs.declared.Room.{Room}
-use Rattle.step.specs.declared.Next.{Next}
 use Rattle.needs.specs.Needs.{coded, keyed, past_limits, too_short}
-use Rattle.limits.specs.Refusals.{LIMIT, ROOM}
+use Rattle.limits.specs.declared.refusal.Refusal.{Refusal}
+use Rattle.limits.specs.Refusals.{LIMIT, ROOM, refusal_number}
 
 -- ---- the numbers with the row counted in
 -- the bytes by which the last count's varint grows with one row more
@@ -27,8 +27,17 @@ grown e r bit len item joins = record {
 }
 
 -- ---- the answer: 3 and 4 for the numbers with the row counted in, and else those numbers; a refusal gives back what it was given
+pub record Next : Type 0 where
+  pub number : ℕ
+  pub counted : Counted
+
 abbrev pub next_of : ℕ → Counted → Next
 next_of e r = record { number = e; counted = r }
+
+-- what a function answers that is given r and gives the next numbers or a refusal
+abbrev pub answered : Counted → Result Counted Refusal → Next
+answered r (Ok next) = next_of 0 next
+answered r (Err e) = next_of (refusal_number e) r
 
 unfoldable pub counted_by : Kind → Encoding → Counted → Room → Counted → Next
 counted_by k e r m next = cond (past_limits k e next) (next_of LIMIT r) (cond (too_short k e next m) (next_of ROOM r) (next_of 0 next))

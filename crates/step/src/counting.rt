@@ -4,17 +4,11 @@ ghost use Rattle.limits.specs.Limits.{MOST_ROWS, MOST_ITEMS, MOST_ENTRIES, MOST_
 ghost use Rattle.format.specs.declared.Encoding.TheVariants.{Plain, RunLength, Dictionary};
 ghost use Rattle.needs.specs.Needs.{record_wrong};
 ghost use Rattle.needs.specs.Tests.{rows_by, runs_by};
-ghost use Rattle.step.specs.Counting.{growth as growth_at, grown as grown_by, next_of, with_entries, counted_by};
+ghost use Rattle.step.specs.Counting.{growth as growth_at, grown as grown_by, answered, with_entries, counted_by};
 
-use crate::Next;
 use encode::Kind;
+use limits::refusal::Refusal;
 use needs::{Counted, Room};
-
-fn refused(number: u8, c: Counted) -> Next
-    ensures { result ≡ next_of number c }
-{
-    Next { number, counted: c }
-}
 
 // The bytes by which the last count's varint grows with one row more.
 fn growth(last: usize) -> usize
@@ -42,25 +36,28 @@ pub fn grown_row(c: Counted, len: usize) -> Counted
     }
 }
 
-// The record with the row counted in, or 3 or 4. An item longer than any block is refused before it goes into a sum.
-pub fn row_counted(c: Counted, kind: Kind, nullable: bool, room: Room, len: usize) -> Next
+// The record with the row counted in, or that it passes a limit or has no room. An item longer than any block is refused before it goes into a sum.
+pub fn row_counted(
+    c: Counted,
+    kind: Kind,
+    nullable: bool,
+    room: Room,
+    len: usize,
+) -> Result<Counted, Refusal>
     requires { record_wrong kind (rows_by nullable) c ≡ false }
-    ensures { result ≡ counted_by kind (rows_by nullable) c room (grown_by (rows_by nullable) c 0 len true false) }
+    ensures { answered c result ≡ counted_by kind (rows_by nullable) c room (grown_by (rows_by nullable) c 0 len true false) }
 {
     if limits::MOST_BYTES < len {
-        return refused(limits::refusal::LIMIT, c);
+        return Err(Refusal::Limit);
     }
     let next = grown_row(c, len);
     if needs::rows_past(next, kind, nullable) {
-        return refused(limits::refusal::LIMIT, c);
+        return Err(Refusal::Limit);
     }
     if needs::rows_short(next, kind, nullable, room) {
-        return refused(limits::refusal::ROOM, c);
+        return Err(Refusal::Room);
     }
-    Next {
-        number: 0,
-        counted: next,
-    }
+    Ok(next)
 }
 
 // ---- runs and keys: the fields that a row changes
@@ -150,24 +147,21 @@ pub fn run_counted(
     len: usize,
     stored: bool,
     joins: bool,
-) -> Next
+) -> Result<Counted, Refusal>
     requires { (record_wrong kind (runs_by nullable) c ≡ false) × (joins ≡ true → c.last < MOST_COUNT) × (stored ≡ not joins) }
-    ensures { result ≡ counted_by kind (runs_by nullable) c room (grown_by (runs_by nullable) c (cond present 1 0) len stored joins) }
+    ensures { answered c result ≡ counted_by kind (runs_by nullable) c room (grown_by (runs_by nullable) c (cond present 1 0) len stored joins) }
 {
     if too_long(stored, len) {
-        return refused(limits::refusal::LIMIT, c);
+        return Err(Refusal::Limit);
     }
     let next = grown_run(c, c.entries, present, len, stored, joins);
     if needs::runs_past(next, kind, nullable) {
-        return refused(limits::refusal::LIMIT, c);
+        return Err(Refusal::Limit);
     }
     if needs::runs_short(next, kind, nullable, room) {
-        return refused(limits::refusal::ROOM, c);
+        return Err(Refusal::Room);
     }
-    Next {
-        number: 0,
-        counted: next,
-    }
+    Ok(next)
 }
 
 pub fn key_counted(
@@ -178,22 +172,19 @@ pub fn key_counted(
     len: usize,
     stored: bool,
     joins: bool,
-) -> Next
+) -> Result<Counted, Refusal>
     requires { (record_wrong kind Dictionary c ≡ false) × (joins ≡ true → c.last < MOST_COUNT) }
-    ensures { result ≡ counted_by kind Dictionary c room (grown_by Dictionary c (cond present 1 0) len stored joins) }
+    ensures { answered c result ≡ counted_by kind Dictionary c room (grown_by Dictionary c (cond present 1 0) len stored joins) }
 {
     if too_long(stored, len) {
-        return refused(limits::refusal::LIMIT, c);
+        return Err(Refusal::Limit);
     }
     let next = grown_run(c, next_entries(c, stored), present, len, stored, joins);
     if needs::keys_past(next, kind) {
-        return refused(limits::refusal::LIMIT, c);
+        return Err(Refusal::Limit);
     }
     if needs::keys_short(next, kind, room) {
-        return refused(limits::refusal::ROOM, c);
+        return Err(Refusal::Room);
     }
-    Next {
-        number: 0,
-        counted: next,
-    }
+    Ok(next)
 }

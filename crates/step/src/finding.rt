@@ -1,4 +1,4 @@
-// What an append finds in the lent areas: whether a field is wrong, whether the row joins the last run, and which entry it is.
+// What an append finds in the lent areas: none if a field that it reads is wrong, and else whether the row joins the last run, and which entry it is.
 ghost use Rattle.std.specs.Prelude.{◌≡◌, ◌-◌, ◌≤◌, ◌<◌, length};
 ghost use Rattle.limits.specs.Limits.{MOST_ITEMS, MOST_ENTRIES};
 ghost use Rattle.plain.specs.Rows.{row_of};
@@ -9,7 +9,6 @@ ghost use Rattle.step.specs.Steps.{run_open, joins_run, run_step, joins_key, key
 
 use crate::Step;
 use encode::Kind;
-use lookup::Looked;
 use needs::Counted;
 
 // ---- encodings 2 and 3: the last item
@@ -59,26 +58,26 @@ pub fn run_step(
     present: bool,
     value: i64,
     item: &[u8],
-) -> Step
+) -> Option<Step>
     requires { (c.runs ≤ MOST_ITEMS) × FieldsThere kind c.runs (held items.now ends.now lens.now) × BytesThere kind c.runs c.bytes (held items.now ends.now lens.now) }
     ensures { result ≡ run_step kind c (held items.now ends.now lens.now) (row_of kind present value item.now) }
 {
     if c.runs == 0 {
-        return Step::Row {
+        return Some(Step {
             stored: true,
             joins: false,
             key: 0,
-        };
+        });
     }
     if lookup::field_wrong(kind, c.runs, c.bytes, ends, lens, c.runs - 1) {
-        return Step::Wrong;
+        return None;
     }
     let joins = joins_run(c, kind, items, ends, lens, present, value, item);
-    Step::Row {
+    Some(Step {
         stored: !joins,
         joins,
         key: 0,
-    }
+    })
 }
 
 // ---- encoding 4: the entries and the keys
@@ -113,27 +112,24 @@ pub fn key_step(
     present: bool,
     value: i64,
     item: &[u8],
-) -> Step
+) -> Option<Step>
     requires { (c.entries ≤ MOST_ENTRIES) × (c.runs ≤ length keys.now) × FieldsThere kind c.entries (held items.now ends.now lens.now)
         × BytesThere kind c.entries c.bytes (held items.now ends.now lens.now) }
     ensures { result ≡ key_step kind c (held items.now ends.now lens.now) keys.now (row_of kind present value item.now) }
 {
     if !present {
         let null_key = -2147483648;
-        return Step::Row {
+        return Some(Step {
             stored: false,
             joins: joins_key(c, keys, null_key),
             key: null_key,
-        };
+        });
     }
-    let looked = lookup::look_up(kind, c.entries, c.bytes, items, ends, lens, value, item);
-    let Looked::Entry(i) = looked else {
-        return Step::Wrong;
-    };
+    let i = lookup::look_up(kind, c.entries, c.bytes, items, ends, lens, value, item)?;
     let key = entry_key(i);
-    Step::Row {
+    Some(Step {
         stored: i == c.entries,
         joins: joins_key(c, keys, key),
         key,
-    }
+    })
 }

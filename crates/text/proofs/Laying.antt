@@ -1,44 +1,42 @@
 -- A text laid at the start of lent memory, the loop of hex digits, and a row's text by its case. Assumes nothing.
-use Prim.Native.Nat.{ℕ, zero, suc, ◌+◌, ◌-◌, ◌*◌, ◌/◌, ◌%◌, ◌≤◌, ◌<◌}
-use native.Mathlib.Nat.{add-zero, zero-add}
+use Prim.Native.Nat.{ℕ, suc, ◌+◌, ◌-◌, ◌*◌, ◌/◌, ◌%◌, ◌≤◌, ◌<◌}
+use native.Mathlib.Nat.{zero-add}
 use native.Mathlib.Numerals.{add-one}
 use native.Mathlib.Omega.{arith}
 use mathlib.Core.Bool.{Bool, true, false}
 use mathlib.Core.Path.{◌≡◌, refl, sym, ap, ◌∙◌}
-use mathlib.Core.List.{List, [], ◌∷◌, ◌++◌}
+use mathlib.Core.List.{List, [], ◌∷◌}
 use lib.IntN.{ℤ}
-use lib.ListN.{length, take, drop, get_or, set, length-set, length-append}
-use lib.Seq.{sets, sets-eq, take-length, take-append_seam, drop-cons, drop-length}
+use lib.ListN.{length, take, drop, get_or, set, length-set}
+use lib.Seq.{sets, sets-eq, take-append_seam, drop-cons, drop-length}
 use borrow.Author.Tests.{lt-ltb, le-ltb}
-use Rattle.area.specs.Area.{over}
 use Rattle.area.proofs.Laws.{over-sets}
 use Rattle.io.specs.Digits.{hex_digit_ascii}
 use Rattle.encode.specs.declared.Kind.{Kind}
 use Rattle.encode.specs.declared.Kind.TheVariants.{Fixed, Char, Blob}
 use Rattle.encode.specs.declared.Primitive.{Primitive}
 use Rattle.plain.specs.Rows.{row_of, value_of}
-use Rattle.text.specs.declared.Made.{Made}
-use Rattle.text.specs.declared.Made.TheVariants.{Text, Short}
+use Rattle.std.specs.Prelude.{Option, Some, None}
 use Rattle.text.specs.Text.{value_text, hex_of, bytes_text, null_text, int_text, row_text, made_in, held_after}
 
 -- what making a text comes to: the answer and what the memory then holds
-abbrev pub Lays : List ℕ → List ℕ → Made → List ℕ → Type 0
+abbrev pub Lays : List ℕ → List ℕ → Option ℕ → List ℕ → Type 0
 Lays t out r out' = (r ≡ made_in out t) × (out' ≡ held_after out t)
 
 module _ (t out : List ℕ) where
-  pub lays-nothing : length out < length t → Lays t out Short out
+  pub lays-nothing : length out < length t → Lays t out None out
   unfolding made_in held_after
   lays-nothing h = (rw (lt-ltb (length out) (length t) h), rw (lt-ltb (length out) (length t) h))
 
-  pub lays-whole : {n : ℕ} {out' : List ℕ} → length t ≤ length out → n ≡ length t → out' ≡ sets out 0 t → Lays t out (Text n) out'
+  pub lays-whole : {n : ℕ} {out' : List ℕ} → length t ≤ length out → n ≡ length t → out' ≡ sets out 0 t → Lays t out (Some n) out'
   unfolding made_in held_after
   lays-whole h e q = (
-    rw (le-ltb (length out) (length t) h) (ap Text e),
+    rw (le-ltb (length out) (length t) h) (ap Some e),
     rw (le-ltb (length out) (length t) h) (q ∙ over-sets t out 0 (omega (arith, zero-add (length t)))),
   )
 
 -- a text by another name
-pub lays-same : (out : List ℕ) {s t : List ℕ} {r : Made} {out' : List ℕ} → s ≡ t → Lays s out r out' → Lays t out r out'
+pub lays-same : (out : List ℕ) {s t : List ℕ} {r : Option ℕ} {out' : List ℕ} → s ≡ t → Lays s out r out' → Lays t out r out'
 lays-same out e p = rw e at p
 
 -- what was put at the start of a room, taken from it
@@ -100,12 +98,12 @@ bytes-some [] h = absurd (omega arith)
 bytes-some (b ∷ bs) h = refl
 
 module _ (bs out : List ℕ) (some : 0 < length bs) where
-  pub bytes-short : length out / 2 < length bs → Lays (bytes_text bs) out Short out
+  pub bytes-short : length out / 2 < length bs → Lays (bytes_text bs) out None out
   bytes-short h =
       let l = length-hex bs in
       lays-same out (bytes-some bs some) (lays-nothing (hex_of bs) out (omega arith))
 
-  pub bytes_whole : {out' : List ℕ} → length bs ≤ length out / 2 → out' ≡ sets out 0 (hex_of bs) → Lays (bytes_text bs) out (Text (2 * length bs)) out'
+  pub bytes_whole : {out' : List ℕ} → length bs ≤ length out / 2 → out' ≡ sets out 0 (hex_of bs) → Lays (bytes_text bs) out (Some (2 * length bs)) out'
   bytes_whole h q =
       let l = length-hex bs in
       lays-same out (bytes-some bs some) (lays-whole (hex_of bs) out (omega arith) (sym l) q)

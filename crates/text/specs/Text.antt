@@ -1,5 +1,5 @@
 -- 01, "Listing program": a row's text, in ASCII, and what lent memory holds after a text was put at its start. Assumes nothing.
-use Rattle.std.specs.Prelude.{ℕ, zero, suc, ◌/◌, ◌%◌, Bool, true, false, cond, List, [], ◌∷◌, ◌++◌, ltb, ℤ, pos, negsuc, length}
+use Rattle.std.specs.Prelude.{ℕ, zero, suc, ◌/◌, ◌%◌, Bool, true, false, cond, List, [], ◌∷◌, ◌++◌, ltb, ℤ, pos, negsuc, length, Option, Some, None}
 use Rattle.std.specs.Int.{w32, w64}
 use Rattle.std.proofs.Common.{of_z, to_z}
 use Rattle.area.specs.Area.{over}
@@ -9,8 +9,6 @@ use Rattle.encode.specs.declared.Kind.{Kind}
 use Rattle.encode.specs.declared.Kind.TheVariants.{Fixed, Char, Blob}
 use Rattle.plain.specs.Rows.{Row, null, int, bytes}
 use Rattle.io.specs.Digits.{hex_digit_ascii}
-use Rattle.text.specs.declared.Made.{Made}
-use Rattle.text.specs.declared.Made.TheVariants.{Text, Short}
 
 -- ---- decimal numbers: no zeros in front. Twenty digits hold every number of 64 bits.
 unfoldable pub decimal_in : ℕ → ℕ → List ℕ
@@ -69,8 +67,8 @@ row_text k (int v) = int_text k v
 row_text k (bytes bs) = bytes_text bs
 
 -- ---- a text put at the start of lent memory: its length, or nothing written where the memory is too short
-unfoldable pub made_in : List ℕ → List ℕ → Made
-made_in room t = cond (ltb (length room) (length t)) Short (Text (length t))
+unfoldable pub made_in : List ℕ → List ℕ → Option ℕ
+made_in room t = cond (ltb (length room) (length t)) None (Some (length t))
 
 unfoldable pub held_after : List ℕ → List ℕ → List ℕ
 held_after room t = cond (ltb (length room) (length t)) room (over room 0 t)

@@ -7,10 +7,3 @@ mod text;
 
 pub use opening::{block_of, open};
 pub use text::row_text;
-
-// What making a text answers: its length, or that the lent memory is too short for it.
-#[derive(Clone, Copy)]
-pub enum Made {
-    Text(usize),
-    Short,
-}

@@ -1,19 +1,20 @@
 // The listing program's input, opened.
 ghost use Rattle.std.specs.Prelude.{◌≡◌};
+ghost use Rattle.limits.specs.Refusals.{by_number};
 ghost use Rattle.text.specs.Input.{input_opened, block_in};
 
-use block::Opened;
-use limits::refusal;
+use block::Reader;
+use limits::refusal::Refusal;
 
 // The listing program's input: a descriptor and a block.
-pub fn open(input: &[u8]) -> Opened
-    ensures { result ≡ input_opened input.now }
+pub fn open(input: &[u8]) -> Result<Reader, Refusal>
+    ensures { by_number result ≡ input_opened input.now }
 {
     if input.len() < 8 {
-        return Opened::Refused(refusal::CUT);
+        return Err(Refusal::Cut);
     }
     if limits::MOST_INPUT < input.len() {
-        return Opened::Refused(refusal::LIMIT);
+        return Err(Refusal::Limit);
     }
     let d = descriptor::unpack([
         input[0], input[1], input[2], input[3], input[4], input[5], input[6], input[7],

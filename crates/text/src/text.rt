@@ -7,11 +7,17 @@ ghost use Rattle.plain.specs.Rows.{row_of};
 ghost use Rattle.io.specs.Digits.{hex_digit_ascii as glyph_of};
 ghost use Rattle.text.specs.Text.{decimal, number_text, interval_text, is_interval, value_text, hex_of, bytes_text, row_text, made_in, held_after};
 
-use crate::Made;
 use encode::{Kind, Primitive};
 
-// A row as a reader hands it out: whether it is present, the value of a fixed kind, the bytes of a char, a blob or a string.
-pub fn row_text(kind: Kind, present: bool, value: i64, bytes: &[u8], out: &mut [u8]) -> Made
+// A row as a reader hands it out: whether it is present, the value of a fixed kind, the bytes of a char, a blob or a string. The text's length
+// comes back, or none where the lent memory is too short for it.
+pub fn row_text(
+    kind: Kind,
+    present: bool,
+    value: i64,
+    bytes: &[u8],
+    out: &mut [u8],
+) -> Option<usize>
     ensures value { result ≡ made_in out.old (row_text kind (row_of kind present value bytes.now)) }
     ensures out_after { out.new ≡ held_after out.old (row_text kind (row_of kind present value bytes.now)) }
 {
@@ -26,22 +32,22 @@ pub fn row_text(kind: Kind, present: bool, value: i64, bytes: &[u8], out: &mut [
 }
 
 // A text at the start of `out`.
-fn lay(text: &[u8], out: &mut [u8]) -> Made
+fn lay(text: &[u8], out: &mut [u8]) -> Option<usize>
     ensures value { result ≡ made_in out.old text.now }
     ensures out_after { out.new ≡ held_after out.old text.now }
 {
     let n = text.len();
     if out.len() < n {
-        return Made::Short;
+        return None;
     }
     area::copy(text, 0, n, out, 0);
-    Made::Text(n)
+    Some(n)
 }
 
 // ---- numbers
 
 // A value of a fixed kind. The longest is an Interval of 23 bytes.
-fn value_text(p: Primitive, v: i64, out: &mut [u8]) -> Made
+fn value_text(p: Primitive, v: i64, out: &mut [u8]) -> Option<usize>
     ensures value { result ≡ made_in out.old (value_text p v) }
     ensures out_after { out.new ≡ held_after out.old (value_text p v) }
 {
@@ -50,13 +56,11 @@ fn value_text(p: Primitive, v: i64, out: &mut [u8]) -> Made
     lay(&room[..n], out)
 }
 
+#[tactic(auto, unfolding(crate::specs::Text::is_interval))]
 fn is_interval(p: Primitive) -> bool
     ensures { result ≡ is_interval p }
 {
-    match p {
-        Primitive::Interval => true,
-        _ => false,
-    }
+    matches!(p, Primitive::Interval)
 }
 
 // A value's text at `at`, and the place behind it.
@@ -65,7 +69,7 @@ fn put_value(p: Primitive, v: i64, out: &mut [u8], at: usize) -> usize
     ensures value { (result ≡ at + length (value_text p v)) × (result ≤ at + 43) }
     ensures out_after { out.new ≡ sets out.old at (value_text p v) }
 {
-    let bits = encode::bits_of(v);
+    let bits = v.cast_unsigned();
     if is_interval(p) {
         return put_interval(bits, out, at);
     }
@@ -122,7 +126,7 @@ fn put_digits(n: u64, out: &mut [u8], at: usize) -> usize
 
 // ---- bytes
 
-fn bytes_text(bytes: &[u8], out: &mut [u8]) -> Made
+fn bytes_text(bytes: &[u8], out: &mut [u8]) -> Option<usize>
     ensures value { result ≡ made_in out.old (bytes_text bytes.now) }
     ensures out_after { out.new ≡ held_after out.old (bytes_text bytes.now) }
 {
@@ -131,10 +135,10 @@ fn bytes_text(bytes: &[u8], out: &mut [u8]) -> Made
         return lay(b"-", out);
     }
     if out.len() / 2 < n {
-        return Made::Short;
+        return None;
     }
     put_hex(bytes, out);
-    Made::Text(2 * n)
+    Some(2 * n)
 }
 
 // Two digits a byte.
@@ -142,20 +146,15 @@ fn put_hex(bytes: &[u8], out: &mut [u8])
     requires { 2 * length bytes.now ≤ length out.old }
     ensures { out.new ≡ sets out.old 0 (hex_of bytes.now) }
 {
-    let mut i = 0;
-    let mut to = 0;
-    while i < bytes.len() {
-        let b = area::wide(bytes[i]);
-        out[to] = glyph(b / 16);
-        out[to + 1] = glyph(b % 16);
-        i += 1;
-        to += 2;
+    for (i, b) in bytes.iter().enumerate() {
+        out[2 * i] = glyph(b / 16);
+        out[2 * i + 1] = glyph(b % 16);
     }
 }
 
-fn glyph(d: u32) -> u8
+fn glyph(d: u8) -> u8
     requires { d < 16 }
     ensures { result ≡ glyph_of d }
 {
-    if d < 10 { 48 + d as u8 } else { 87 + d as u8 }
+    if d < 10 { b'0' + d } else { b'a' - 10 + d }
 }

@@ -25,6 +25,8 @@
 
 mod lending;
 
+use cells::Areas;
+
 fn main() {
     let mut input = lending::commands();
     let mut items = lending::items();
@@ -34,15 +36,14 @@ fn main() {
     let mut keys = lending::keys();
     let mut lens = lending::lens();
     let mut room = lending::room();
+    let mut areas = Areas {
+        items: &mut items,
+        ends: &mut ends,
+        flags: &mut flags,
+        counts: &mut counts,
+        keys: &mut keys,
+        lens: &mut lens,
+    };
     let n = io::read_full(0, &mut input);
-    run_by::run_all(
-        &input[..n],
-        &mut items,
-        &mut ends,
-        &mut flags,
-        &mut counts,
-        &mut keys,
-        &mut lens,
-        &mut room,
-    );
+    run_by::run_all(&input[..n], &mut areas, &mut room);
 }

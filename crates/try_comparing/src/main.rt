@@ -12,207 +12,142 @@
 
 ghost use Rattle.std.specs.Prelude.{◌≡◌, length};
 
-use comparing::Compared;
 use descriptor::Descriptor;
-use parts_by::{Places, parts};
-use script::{byte, first, number, past, say, show_byte, show_size};
+use parts_by::{descriptor, parts};
+use script::{Input, first, say, show, show_each};
 
-// What stands between two commands: the place in the input, the lengths of the two blocks.
+// A command, by its number.
 #[derive(Clone, Copy)]
-struct State {
-    at: usize,
+enum Command {
+    LoadFirst,
+    LoadSecond,
+    Compare,
+    CompareTurned,
+    Print,
+}
+
+impl From<u8> for Command {
+    fn from(number: u8) -> Command {
+        match number {
+            0 => Command::LoadFirst,
+            1 => Command::LoadSecond,
+            2 => Command::Compare,
+            3 => Command::CompareTurned,
+            _ => Command::Print,
+        }
+    }
+}
+
+// What stands between two commands: the input, the lengths of the two blocks.
+#[derive(Clone, Copy)]
+struct State<'a> {
+    input: Input<'a>,
     one: usize,
     other: usize,
 }
 
-// The numbers of a comparison, and the place after them.
+// A column: its descriptor and its block.
 #[derive(Clone, Copy)]
-struct Asked {
-    a: Descriptor,
-    b: Descriptor,
-    firsts: usize,
-    lasts: usize,
-    next: usize,
-}
-
-// A descriptor's numbers, and the place after them.
-#[derive(Clone, Copy)]
-struct Described {
+struct Column<'b> {
     descriptor: Descriptor,
-    next: usize,
+    block: &'b [u8],
 }
 
 // ---- blocks
 
-fn load(s: &[u8], at: usize, word: &[u8], room: &mut [u8]) -> Places {
-    let places = parts(s, at, room);
+fn load(input: &mut Input, word: &[u8], room: &mut [u8]) -> usize {
+    let len = parts(input, room);
     say(word);
-    show_size(places.to);
+    show(len);
     say(b"\n");
-    places
-}
-
-fn load_first(s: &[u8], state: State, room: &mut [u8]) -> State {
-    let places = load(s, state.at, b"first", room);
-    State {
-        at: places.at,
-        one: places.to,
-        other: state.other,
-    }
-}
-
-fn load_second(s: &[u8], state: State, room: &mut [u8]) -> State {
-    let places = load(s, state.at, b"second", room);
-    State {
-        at: places.at,
-        one: state.one,
-        other: places.to,
-    }
+    len
 }
 
 // ---- comparing
 
-fn descriptor_at(s: &[u8], at: usize) -> Described {
-    let kind = number(s, at);
-    let encoding = number(s, kind.next);
-    let width = number(s, encoding.next);
-    let zero = number(s, width.next);
-    let rows = number(s, zero.next);
-    Described {
-        descriptor: Descriptor {
-            kind: kind.value,
-            encoding: encoding.value,
-            width: width.value,
-            zero: zero.value,
-            rows: rows.value,
-        },
-        next: rows.next,
-    }
-}
-
-fn numbers_at(s: &[u8], at: usize) -> Asked {
-    let one = descriptor_at(s, at);
-    let other = descriptor_at(s, one.next);
-    let firsts = number(s, other.next);
-    let lasts = number(s, firsts.next);
-    let a = one.descriptor;
-    let b = other.descriptor;
-    Asked {
-        a,
-        b,
-        firsts: firsts.value,
-        lasts: lasts.value,
-        next: lasts.next,
-    }
-}
-
-fn show_sizes(list: &[usize]) {
-    let mut i = 0;
-    while i < list.len() {
-        show_size(list[i]);
-        i += 1;
-    }
-}
-
-fn show_compared(answer: Compared, firsts: &[usize], lasts: &[usize]) {
+fn compare_into(one: Column, other: Column, firsts: &mut [usize], lasts: &mut [usize]) {
+    let answer = comparing::compare(
+        one.descriptor,
+        one.block,
+        other.descriptor,
+        other.block,
+        firsts,
+        lasts,
+    );
     say(b"compare");
-    show_byte(answer.number);
-    show_size(answer.ranges);
+    show(answer.number);
+    show(answer.ranges);
     say(b"\n firsts");
-    show_sizes(firsts);
+    show_each(firsts);
     say(b"\n lasts");
-    show_sizes(lasts);
+    show_each(lasts);
     say(b"\n");
 }
 
-fn compare_into(
-    a: Descriptor,
-    one: &[u8],
-    b: Descriptor,
-    other: &[u8],
-    firsts: &mut [usize],
-    lasts: &mut [usize],
-) {
-    let answer = comparing::compare(a, one, b, other, firsts, lasts);
-    show_compared(answer, firsts, lasts);
-}
-
-// Lends so many slots, filled with what is no row's number here. Where a list is too long nothing is compared.
-fn compare_lent(a: Descriptor, one: &[u8], b: Descriptor, other: &[u8], n: usize, m: usize) {
-    if 2100 < n {
-        return;
-    }
-    if 2100 < m {
-        return;
-    }
+// The first block with the second, or the second with the first. As many slots are lent as is told, filled with what is no row's number here;
+// where a list is too long nothing is compared.
+fn compare(input: &mut Input, turned: bool, first: &[u8], second: &[u8]) {
+    let one = Column {
+        descriptor: descriptor(input),
+        block: first,
+    };
+    let other = Column {
+        descriptor: descriptor(input),
+        block: second,
+    };
+    let n = input.number();
+    let m = input.number();
     let mut firsts = [0xaaaa_aaaausize; 2100];
     let mut lasts = [0xaaaa_aaaausize; 2100];
-    compare_into(a, one, b, other, &mut firsts[0..n], &mut lasts[0..m]);
-}
-
-// The first block with the second, or the second with the first.
-fn compare(s: &[u8], at: usize, turned: bool, one: &[u8], other: &[u8]) -> usize {
-    let numbers = numbers_at(s, at);
-    let a = numbers.a;
-    let b = numbers.b;
-    if turned {
-        compare_lent(b, other, a, one, numbers.firsts, numbers.lasts);
-        return numbers.next;
+    if firsts.len() < n || lasts.len() < m {
+        return;
     }
-    compare_lent(a, one, b, other, numbers.firsts, numbers.lasts);
-    numbers.next
+    if turned {
+        compare_into(other, one, &mut firsts[..n], &mut lasts[..m]);
+    } else {
+        compare_into(one, other, &mut firsts[..n], &mut lasts[..m]);
+    }
 }
 
 // ---- the commands
 
-// Those that change no block. What comes back is the place after them.
-fn ask(s: &[u8], at: usize, command: u8, one: &[u8], other: &[u8]) -> usize {
-    if command == 2 {
-        return compare(s, at, false, one, other);
-    }
-    if command == 3 {
-        return compare(s, at, true, one, other);
-    }
-    compare_by::print(one, other);
-    at
-}
-
-fn run(s: &[u8], state: State, one: &mut [u8], other: &mut [u8]) -> State {
-    let command = byte(s, state.at);
-    let next = State {
-        at: past(state.at, 1),
-        one: state.one,
-        other: state.other,
-    };
-    if command == 0 {
-        return load_first(s, next, one);
-    }
-    if command == 1 {
-        return load_second(s, next, other);
-    }
-    let a = first(one, next.one);
-    let b = first(other, next.other);
-    State {
-        at: ask(s, next.at, command, a, b),
-        one: next.one,
-        other: next.other,
+impl State<'_> {
+    fn run(&mut self, one: &mut [u8], other: &mut [u8]) {
+        let command = Command::from(self.input.byte());
+        match command {
+            Command::LoadFirst => self.one = load(&mut self.input, b"first", one),
+            Command::LoadSecond => self.other = load(&mut self.input, b"second", other),
+            Command::Compare => compare(
+                &mut self.input,
+                false,
+                first(one, self.one),
+                first(other, self.other),
+            ),
+            Command::CompareTurned => compare(
+                &mut self.input,
+                true,
+                first(one, self.one),
+                first(other, self.other),
+            ),
+            Command::Print => {
+                compare_by::print(first(one, self.one), first(other, self.other));
+            }
+        }
     }
 }
 
 // Each command takes a byte at least, so there are no more of them than bytes.
 fn run_all(s: &[u8], one: &mut [u8], other: &mut [u8]) {
     let mut state = State {
-        at: 0,
+        input: Input::new(s),
         one: 0,
         other: 0,
     };
-    let mut left = s.len();
-    while 0 < left {
-        if s.len() <= state.at {
+    for _ in 0..s.len() {
+        if state.input.is_done() {
             return;
         }
-        state = run(s, state, one, other);
-        left -= 1;
+        state.run(one, other);
     }
 }
 

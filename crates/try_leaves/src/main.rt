@@ -2,50 +2,33 @@
 // stdout has what the format says of them.
 #![tactic(auto)]
 
-use script::say;
+use script::{first, rest, say, show_bytes};
 
 fn number(n: u64) {
     io::print_decimal(1, n);
 }
 
-// By the two's complement: a number from 2^63 on stands for one that is 2^64 less.
 fn signed(v: i64) {
-    let bits = encode::bits_of(v);
-    if bits < 0x8000_0000_0000_0000 {
-        number(bits);
-        return;
+    if v < 0 {
+        say(b"-");
     }
-    say(b"-");
-    number(0xffff_ffff_ffff_ffff - bits + 1);
-}
-
-fn hex_byte(b: u8) {
-    io::print_hex(1, b as u64, 2);
+    number(v.unsigned_abs());
 }
 
 // The n bytes from a place on, as far as there are so many.
 fn hex(s: &[u8], from: usize, n: usize) {
-    let mut i = from;
-    let mut left = n;
-    while 0 < left {
-        if s.len() <= i {
-            return;
-        }
-        hex_byte(s[i]);
-        i += 1;
-        left -= 1;
-    }
+    show_bytes(first(rest(s, from), n));
 }
 
 // ---- run counts
-fn found(count: varint::Count) {
+fn found(count: Option<varint::Count>) {
     match count {
-        varint::Count::Number { value, len } => {
-            number(value as u64);
+        Some(count) => {
+            number(count.value as u64);
             say(b" ");
-            number(len as u64);
+            number(count.len as u64);
         }
-        varint::Count::Bad => {
+        None => {
             say(b"bad");
         }
     }
@@ -73,7 +56,7 @@ fn written(value: u32, area: &mut [u8], at: usize) {
     say(b"count ");
     number(value as u64);
     match varint::encode_u32(value, area, at) {
-        varint::Wrote::Bytes { len } => {
+        Some(len) => {
             say(b" ");
             hex(area, at, len);
             say(b" ");
@@ -82,7 +65,7 @@ fn written(value: u32, area: &mut [u8], at: usize) {
             say(b" read ");
             found(varint::decode_u32(area, at));
         }
-        varint::Wrote::NoRoom => {
+        None => {
             say(b" no room");
             within(area, at);
         }
@@ -97,21 +80,25 @@ fn count(value: u32) {
 }
 
 fn counts() {
-    count(0);
-    count(1);
-    count(127);
-    count(128);
-    count(150);
-    count(300);
-    count(16383);
-    count(16384);
-    count(2097151);
-    count(2097152);
-    count(268435455);
-    count(268435456);
-    count(0xefff_ffff);
-    count(0xf000_0000);
-    count(0xffff_ffff);
+    for value in [
+        0,
+        1,
+        127,
+        128,
+        150,
+        300,
+        16383,
+        16384,
+        2097151,
+        2097152,
+        268435455,
+        268435456,
+        0xefff_ffff,
+        0xf000_0000,
+        0xffff_ffff,
+    ] {
+        count(value);
+    }
 }
 
 // Just enough room and one byte less, for two bytes and for five; a place at the end of the area, and one past it.
@@ -197,10 +184,10 @@ fn kind(id: usize, width: usize) {
     number(width as u64);
     say(b" ");
     match encode::kind_of(id, width) {
-        encode::FoundKind::Known(k) => {
+        Some(k) => {
             known(k);
         }
-        encode::FoundKind::Unknown => {
+        None => {
             say(b"unknown");
         }
     }
@@ -208,27 +195,31 @@ fn kind(id: usize, width: usize) {
 }
 
 fn kinds() {
-    kind(0, 0);
-    kind(1, 0);
-    kind(2, 0);
-    kind(3, 0);
-    kind(4, 0);
-    kind(5, 0);
-    kind(6, 0);
-    kind(7, 0);
-    kind(7, 8);
-    kind(8, 0);
-    kind(8, 1);
-    kind(8, 255);
-    kind(8, 256);
-    kind(9, 0);
-    kind(9, 1);
-    kind(10, 0);
-    kind(10, 1);
-    kind(11, 0);
-    kind(11, 1);
-    kind(11, 8);
-    kind(12, 0);
+    for (id, width) in [
+        (0, 0),
+        (1, 0),
+        (2, 0),
+        (3, 0),
+        (4, 0),
+        (5, 0),
+        (6, 0),
+        (7, 0),
+        (7, 8),
+        (8, 0),
+        (8, 1),
+        (8, 255),
+        (8, 256),
+        (9, 0),
+        (9, 1),
+        (10, 0),
+        (10, 1),
+        (11, 0),
+        (11, 1),
+        (11, 8),
+        (12, 0),
+    ] {
+        kind(id, width);
+    }
 }
 
 // What an item reads as.
@@ -260,53 +251,62 @@ fn value(p: encode::Primitive, v: i64) {
 
 // The limits of each kind, one value beyond each limit where there is one, and a value whose bytes all differ.
 fn bools() {
-    value(encode::Primitive::Bool, -1);
-    value(encode::Primitive::Bool, 0);
-    value(encode::Primitive::Bool, 1);
-    value(encode::Primitive::Bool, 2);
+    for v in [-1, 0, 1, 2] {
+        value(encode::Primitive::Bool, v);
+    }
     item(encode::Primitive::Bool, [2, 0, 0, 0, 0, 0, 0, 0]);
     item(encode::Primitive::Bool, [255, 0, 0, 0, 0, 0, 0, 0]);
 }
 
 fn of_16_bits() {
-    value(encode::Primitive::I16, -32769);
-    value(encode::Primitive::I16, -32768);
-    value(encode::Primitive::I16, -1);
-    value(encode::Primitive::I16, 0x0102);
-    value(encode::Primitive::I16, 32767);
-    value(encode::Primitive::I16, 32768);
+    for v in [-32769, -32768, -1, 0x0102, 32767, 32768] {
+        value(encode::Primitive::I16, v);
+    }
 }
 
 fn of_32_bits(p: encode::Primitive) {
-    value(p, -2147483649);
-    value(p, -2147483648);
-    value(p, -1);
-    value(p, 0x0102_0304);
-    value(p, 2147483647);
-    value(p, 2147483648);
+    for v in [
+        -2147483649,
+        -2147483648,
+        -1,
+        0x0102_0304,
+        2147483647,
+        2147483648,
+    ] {
+        value(p, v);
+    }
 }
 
 fn of_64_bits(p: encode::Primitive) {
-    value(p, -9223372036854775808);
-    value(p, -1);
-    value(p, 0x0102_0304_0506_0708);
-    value(p, 9223372036854775807);
+    for v in [
+        -9223372036854775808,
+        -1,
+        0x0102_0304_0506_0708,
+        9223372036854775807,
+    ] {
+        value(p, v);
+    }
 }
 
 // Months and days in one value: a month less a day, and minus one month.
 fn intervals() {
-    value(encode::Primitive::Interval, 0x1_ffff_ffff);
-    value(encode::Primitive::Interval, -4294967296);
+    for v in [0x1_ffff_ffff, -4294967296] {
+        value(encode::Primitive::Interval, v);
+    }
 }
 
 // By their bits: 0.0 and 1.0, the infinities, a quiet NaN and a signalling one. The least integer, above, is -0.0.
 fn rates() {
-    value(encode::Primitive::F64, 0);
-    value(encode::Primitive::F64, 0x3ff0_0000_0000_0000);
-    value(encode::Primitive::F64, 0x7ff0_0000_0000_0000);
-    value(encode::Primitive::F64, -4503599627370496);
-    value(encode::Primitive::F64, 0x7ff8_0000_0000_0000);
-    value(encode::Primitive::F64, 0x7ff0_0000_0000_0001);
+    for v in [
+        0,
+        0x3ff0_0000_0000_0000,
+        0x7ff0_0000_0000_0000,
+        -4503599627370496,
+        0x7ff8_0000_0000_0000,
+        0x7ff0_0000_0000_0001,
+    ] {
+        value(encode::Primitive::F64, v);
+    }
 }
 
 fn values() {

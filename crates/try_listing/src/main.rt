@@ -9,46 +9,26 @@
 
 ghost use Rattle.std.specs.Prelude.{◌≡◌, length};
 
-use block::{Opened, Reader};
-use script::{byte, first, past};
+use block::Reader;
+use script::{Input, byte, first, past};
 
-// Four bytes as a number; two.
-fn four(s: &[u8], at: usize) -> usize {
-    let item = [
-        byte(s, at),
-        byte(s, past(at, 1)),
-        byte(s, past(at, 2)),
-        byte(s, past(at, 3)),
-        0,
-        0,
-        0,
-        0,
-    ];
-    encode::low8(item) as usize
+// The next bytes as a number, lowest first.
+fn four(input: &mut Input) -> usize {
+    let bytes = [input.byte(), input.byte(), input.byte(), input.byte()];
+    u32::from_le_bytes(bytes) as usize
 }
 
-fn two(s: &[u8], at: usize) -> usize {
-    let item = [byte(s, at), byte(s, past(at, 1)), 0, 0, 0, 0, 0, 0];
-    encode::low8(item) as usize
+fn two(input: &mut Input) -> usize {
+    usize::from(u16::from_le_bytes([input.byte(), input.byte()]))
 }
 
-// Byte i of an input of which the n bytes from a place on are given.
-fn given(s: &[u8], at: usize, n: usize, i: usize) -> u8 {
-    if n <= i {
-        return 0;
-    }
-    byte(s, past(at, i))
-}
-
-// An input of this length at the start of the room.
-fn load(s: &[u8], at: usize, n: usize, len: usize, room: &mut [u8]) {
-    let mut i = 0;
-    while i < room.len() {
+// An input of this length at the start of the room: the bytes that are given of it, and 0 behind them.
+fn load(given: &[u8], len: usize, room: &mut [u8]) {
+    for (i, cell) in room.iter_mut().enumerate() {
         if len <= i {
             return;
         }
-        room[i] = given(s, at, n, i);
-        i += 1;
+        *cell = byte(given, i);
     }
 }
 
@@ -74,53 +54,44 @@ fn passed(reader: Reader, block: &[u8], rows: usize) -> Reader {
 fn reader_of(input: &[u8], rows: usize) -> Reader {
     let answer = text::open(input);
     match answer {
-        Opened::Open(reader) => passed(reader, text::block_of(input), rows),
-        Opened::Refused(_) => block::no_reader(),
+        Ok(reader) => passed(reader, text::block_of(input), rows),
+        Err(_) => block::no_reader(),
     }
 }
 
-// Sets a byte, if it is there.
-fn put(room: &mut [u8], at: usize, value: u8) {
-    if at < room.len() {
-        room[at] = value;
-    }
-}
-
-// Lists the rows of the input in the room, which is changed after it is opened. What comes back is the place after the change.
-fn list_changed(s: &[u8], at: usize, len: usize, room: &mut [u8]) -> usize {
-    let place = two(s, at);
-    let rows = two(s, past(at, 2));
-    let value = byte(s, past(at, 4));
+// Lists the rows of the file in the room, which is changed after it is opened.
+fn list_changed(input: &mut Input, len: usize, room: &mut [u8]) {
+    let place = past(two(input), 8);
+    let rows = two(input);
+    let value = input.byte();
     let reader = reader_of(first(room, len), rows);
-    put(room, past(place, 8), value);
+    if let Some(cell) = room.get_mut(place) {
+        *cell = value;
+    }
     printing::print_rows(reader, text::block_of(first(room, len)));
-    past(at, 5)
 }
 
-// Lists the input at a place. What comes back is the place after it.
-fn list(s: &[u8], at: usize, room: &mut [u8]) -> usize {
-    let told = four(s, at);
-    let n = two(s, past(at, 4));
-    let from = past(at, 6);
+// Lists the next input.
+fn list(input: &mut Input, room: &mut [u8]) {
+    let told = four(input);
+    let n = two(input);
     let len = told % 0x8000_0000;
-    load(s, from, n, len, room);
+    load(input.part(n), len, room);
     if told < 0x8000_0000 {
         printing::print(first(room, len));
-        return past(from, n);
+    } else {
+        list_changed(input, len, room);
     }
-    list_changed(s, past(from, n), len, room)
 }
 
 // Each input takes a byte at least, so there are no more of them than bytes.
 fn list_all(s: &[u8], room: &mut [u8]) {
-    let mut at = 0;
-    let mut left = s.len();
-    while 0 < left {
-        if s.len() <= at {
+    let mut input = Input::new(s);
+    for _ in 0..s.len() {
+        if input.is_done() {
             return;
         }
-        at = list(s, at, room);
-        left -= 1;
+        list(&mut input, room);
     }
 }
 

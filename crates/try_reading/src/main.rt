@@ -13,52 +13,50 @@
 
 ghost use Rattle.std.specs.Prelude.{◌≡◌, length};
 
-use block::{Opened, Reader};
+use block::Reader;
+use limits::refusal::Refusal;
 use parts_by::{parts, put};
-use script::{byte, first, number, past, say, show, show_byte, show_size};
-use show_reader::{give_into, show_reader};
+use script::{Input, first, say, show, show_byte};
+use show_reader::{Lengths, give_into, show_reader};
 
-// What stands between two commands: the place in the input, the length of the lent block, the reader.
+// A command, by its number.
 #[derive(Clone, Copy)]
-struct State {
-    at: usize,
+enum Command {
+    Load,
+    Open,
+    Read,
+    Remaining,
+    Set,
+    Change,
+    Lend,
+}
+
+impl From<u8> for Command {
+    fn from(number: u8) -> Command {
+        match number {
+            0 => Command::Load,
+            1 => Command::Open,
+            2 => Command::Read,
+            3 => Command::Remaining,
+            4 => Command::Set,
+            5 => Command::Change,
+            _ => Command::Lend,
+        }
+    }
+}
+
+// What stands between two commands: the input, the length of the lent block, the reader.
+#[derive(Clone, Copy)]
+struct State<'a> {
+    input: Input<'a>,
     len: usize,
     reader: Reader,
 }
 
-// ---- blocks
-
-fn load(s: &[u8], state: State, block: &mut [u8]) -> State {
-    let places = parts(s, state.at, block);
-    say(b"block");
-    show_size(places.to);
-    let mut next = state;
-    next.at = places.at;
-    next.len = places.to;
-    next
-}
-
-fn change(s: &[u8], state: State, block: &mut [u8]) -> State {
-    let place = number(s, state.at);
-    let b = byte(s, place.next);
-    put(block, place.value, b);
-    say(b"change");
-    let mut next = state;
-    next.at = past(place.next, 1);
-    next
-}
-
-fn lend(s: &[u8], state: State) -> State {
-    let n = number(s, state.at);
-    say(b"lend");
-    let mut next = state;
-    next.at = n.next;
-    next.len = n.value;
-    next
-}
-
 // ---- readers
 
+// The reader with another number in a field, counted from 0. A number names a field here alone, so an enum of the fields would tell the same
+// fourteen once more.
 fn with(r: Reader, field: usize, value: usize) -> Reader {
     let mut next = r;
     match field {
@@ -80,117 +78,104 @@ fn with(r: Reader, field: usize, value: usize) -> Reader {
     next
 }
 
-fn set(s: &[u8], state: State) -> State {
-    let field = number(s, state.at);
-    let value = number(s, field.next);
-    say(b"set");
-    State {
-        at: value.next,
-        len: state.len,
-        reader: with(state.reader, field.value, value.value),
-    }
-}
-
-fn opened(answer: Opened) -> Reader {
+fn opened(answer: Result<Reader, Refusal>) -> Reader {
     say(b"open");
     match answer {
-        Opened::Open(r) => {
+        Ok(r) => {
             show(0);
             show_reader(r);
             r
         }
-        Opened::Refused(number) => {
-            show_byte(number);
+        Err(refusal) => {
+            show_byte(u8::from(refusal));
             block::no_reader()
         }
     }
 }
 
-fn open(s: &[u8], state: State, block: &[u8]) -> State {
-    let kind = number(s, state.at);
-    let encoding = number(s, kind.next);
-    let width = number(s, encoding.next);
-    let rows = number(s, width.next);
-    let bytes = first(block, state.len);
-    let answer = block::open(kind.value, encoding.value, width.value, rows.value, bytes);
-    State {
-        at: rows.next,
-        len: state.len,
-        reader: opened(answer),
+impl State<'_> {
+    // ---- blocks
+
+    fn load(&mut self, block: &mut [u8]) {
+        self.len = parts(&mut self.input, block);
+        say(b"block");
+        show(self.len);
     }
-}
 
-fn remaining(state: State) -> State {
-    let reader = state.reader;
-    let answer = reader.remaining();
-    say(b"left");
-    show_byte(answer.number);
-    show_size(answer.rows);
-    let same = answer.reader;
-    State {
-        at: state.at,
-        len: state.len,
-        reader: same,
+    fn change(&mut self, block: &mut [u8]) {
+        let place = self.input.number();
+        put(block, place, self.input.byte());
+        say(b"change");
     }
-}
 
-fn read(s: &[u8], state: State, block: &[u8]) -> State {
-    let skip = number(s, state.at);
-    let size = number(s, skip.next);
-    let values = number(s, size.next);
-    let flags = number(s, values.next);
-    let ends = number(s, flags.next);
-    let bytes = number(s, ends.next);
-    let reader = state.reader;
-    let part = first(block, state.len);
-    State {
-        at: bytes.next,
-        len: state.len,
-        reader: give_into(
-            reader,
-            part,
-            skip.value,
-            size.value,
-            values.value,
-            flags.value,
-            ends.value,
-            bytes.value,
-        ),
+    fn lend(&mut self) {
+        self.len = self.input.number();
+        say(b"lend");
     }
-}
 
-// ---- the commands
+    // ---- readers
 
-fn run(s: &[u8], state: State, block: &mut [u8]) -> State {
-    let command = byte(s, state.at);
-    let mut next = state;
-    next.at = past(state.at, 1);
-    match command {
-        0 => load(s, next, block),
-        1 => open(s, next, block),
-        2 => read(s, next, block),
-        3 => remaining(next),
-        4 => set(s, next),
-        5 => change(s, next, block),
-        _ => lend(s, next),
+    fn set(&mut self) {
+        let field = self.input.number();
+        let value = self.input.number();
+        say(b"set");
+        self.reader = with(self.reader, field, value);
+    }
+
+    fn open(&mut self, block: &[u8]) {
+        let kind = self.input.number();
+        let encoding = self.input.number();
+        let width = self.input.number();
+        let rows = self.input.number();
+        let bytes = first(block, self.len);
+        self.reader = opened(block::open(kind, encoding, width, rows, bytes));
+    }
+
+    fn remaining(&mut self) {
+        let answer = self.reader.remaining();
+        say(b"left");
+        show(answer.number);
+        show(answer.rows);
+        self.reader = answer.reader;
+    }
+
+    fn read(&mut self, block: &[u8]) {
+        let skip = self.input.number();
+        let size = self.input.number();
+        let lent = Lengths::taken(&mut self.input);
+        let part = first(block, self.len);
+        self.reader = give_into(self.reader, part, skip, size, lent);
+    }
+
+    // ---- the commands
+
+    fn run(&mut self, block: &mut [u8]) {
+        let command = Command::from(self.input.byte());
+        match command {
+            Command::Load => self.load(block),
+            Command::Open => self.open(block),
+            Command::Read => self.read(block),
+            Command::Remaining => self.remaining(),
+            Command::Set => self.set(),
+            Command::Change => self.change(block),
+            Command::Lend => self.lend(),
+        }
     }
 }
 
 // Each command takes a byte at least, so there are no more of them than bytes.
 fn run_all(s: &[u8], block: &mut [u8]) {
     let mut state = State {
-        at: 0,
+        input: Input::new(s),
         len: 0,
         reader: block::no_reader(),
     };
-    let mut left = s.len();
-    while 0 < left {
-        if s.len() <= state.at {
+    for _ in 0..s.len() {
+        if state.input.is_done() {
             return;
         }
-        state = run(s, state, block);
+        state.run(block);
         say(b"\n");
-        left -= 1;
     }
 }
 

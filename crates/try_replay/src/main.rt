@@ -18,6 +18,8 @@
 
 ghost use Rattle.std.specs.Prelude.{◌≡◌, length};
 
+use cells::Areas;
+
 // Room for the commands.
 fn commands() -> [u8; 200000]
     ensures { 200000 ≡ length result }
@@ -27,22 +29,15 @@ fn commands() -> [u8; 200000]
 
 fn main() {
     let mut input = commands();
-    let mut items = [0u8; 4096];
-    let mut ends = [0u32; 512];
-    let mut flags = [0u8; 64];
-    let mut counts = [0u32; 512];
-    let mut keys = [0i32; 512];
-    let mut lens = [0u8; 512];
+    let mut areas = Areas {
+        items: &mut [0u8; 4096],
+        ends: &mut [0u32; 512],
+        flags: &mut [0u8; 64],
+        counts: &mut [0u32; 512],
+        keys: &mut [0i32; 512],
+        lens: &mut [0u8; 512],
+    };
     let mut room = [0u8; 8192];
     let n = io::read_full(0, &mut input);
-    replay_run::run_all(
-        &input[..n],
-        &mut items,
-        &mut ends,
-        &mut flags,
-        &mut counts,
-        &mut keys,
-        &mut lens,
-        &mut room,
-    );
+    replay_run::run_all(&input[..n], &mut areas, &mut room);
 }

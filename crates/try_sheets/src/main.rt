@@ -15,148 +15,85 @@
 ghost use Rattle.std.specs.Prelude.{◌≡◌, length};
 
 use parts_by::{copy, parts, put};
-use script::{byte, first, number, past, rest, say, show_byte, show_bytes, show_size};
-use sheet::Found;
-use sheet_writer::Written;
-use show_reader::{give_into, show_reader};
+use script::{Input, first, past, say, show, show_bytes};
+use show_reader::{Lengths, give_into, show_reader};
 
-// What stands between two commands: the place in the input, the length of the lent file.
+// A command, by its number.
 #[derive(Clone, Copy)]
-struct State {
-    at: usize,
+enum Command {
+    Load,
+    Open,
+    Change,
+    Lend,
+    Write,
+    WriteOn,
+    List,
+}
+
+impl From<u8> for Command {
+    fn from(number: u8) -> Command {
+        match number {
+            0 => Command::Load,
+            1 => Command::Open,
+            2 => Command::Change,
+            3 => Command::Lend,
+            4 => Command::Write,
+            5 => Command::WriteOn,
+            _ => Command::List,
+        }
+    }
+}
+
+// What stands between two commands: the input, the length of the lent file.
+#[derive(Clone, Copy)]
+struct State<'a> {
+    input: Input<'a>,
     len: usize,
-}
-
-// ---- files
-
-fn load(s: &[u8], at: usize, file: &mut [u8]) -> State {
-    let places = parts(s, at, file);
-    say(b"file");
-    show_size(places.to);
-    say(b"\n");
-    State {
-        at: places.at,
-        len: places.to,
-    }
-}
-
-fn change(s: &[u8], state: State, file: &mut [u8]) -> State {
-    let place = number(s, state.at);
-    let b = byte(s, place.next);
-    put(file, place.value, b);
-    say(b"change");
-    show_size(place.value);
-    show_byte(b);
-    say(b"\n");
-    State {
-        at: past(place.next, 1),
-        len: state.len,
-    }
-}
-
-fn lend(s: &[u8], at: usize) -> State {
-    let n = number(s, at);
-    say(b"lend");
-    show_size(n.value);
-    say(b"\n");
-    State {
-        at: n.next,
-        len: n.value,
-    }
 }
 
 // ---- columns
 
-fn show_found(j: usize, answer: Found) {
-    say(b"open");
-    show_size(j);
-    show_byte(answer.number);
-    show_size(answer.from);
-    show_size(answer.len);
-    show_reader(answer.reader);
-}
+// The slots that are lent for the first four rows of a column.
+const FOUR: Lengths = Lengths {
+    values: 4,
+    flags: 4,
+    ends: 4,
+    bytes: 16,
+};
 
 // Column j: its answer, its block's length and first bytes, and of a sound one the first four rows.
 fn open_one(file: &[u8], j: usize) {
     let answer = sheet::open(file, j);
     let block = sheet::part(file, j);
-    show_found(j, answer);
+    say(b"open");
+    show(j);
+    show(answer.number);
+    show(answer.from);
+    show(answer.len);
+    show_reader(answer.reader);
     say(b"\n part");
-    show_size(block.len());
+    show(block.len());
     say(b":");
     show_bytes(first(block, 64));
     say(b"\n");
     if answer.number == 0 {
-        give_into(answer.reader, block, 0, 4, 4, 4, 4, 16);
+        give_into(answer.reader, block, 0, 4, FOUR);
         say(b"\n");
-    }
-}
-
-// n columns from j on.
-fn open_each(file: &[u8], j: usize, n: usize) {
-    let mut i = 0;
-    while i < n {
-        open_one(file, past(j, i));
-        i += 1;
-    }
-}
-
-fn open(s: &[u8], state: State, file: &[u8]) -> State {
-    let j = number(s, state.at);
-    let n = number(s, j.next);
-    open_each(first(file, state.len), j.value, n.value);
-    State {
-        at: n.next,
-        len: state.len,
     }
 }
 
 // ---- writing
 
-// The n numbers at a place, as far as the list goes. What comes back is the place after them.
-fn numbers_at(s: &[u8], at: usize, n: usize, list: &mut [usize]) -> usize {
-    let mut next = at;
-    let mut i = 0;
-    while i < n {
-        let taken = number(s, next);
-        next = taken.next;
-        set(list, i, taken.value);
-        i += 1;
-    }
-    next
-}
-
-fn set(list: &mut [usize], i: usize, value: usize) {
-    if i < list.len() {
-        list[i] = value;
-    }
-}
-
-fn show_written(answer: Written, out: &[u8]) {
-    say(b"write");
-    show_byte(answer.number);
-    show_size(answer.len);
-    say(b"\n out:");
-    show_bytes(first(out, 4000));
-    say(b"\n");
-}
-
 // Writes into the memory, and shows its first bytes. What comes back is the file's length.
 fn write_into(list: &[usize], blocks: &[u8], out: &mut [u8]) -> usize {
     let answer = sheet_writer::write(list, blocks, out);
-    show_written(answer, out);
+    say(b"write");
+    show(answer.number);
+    show(answer.len);
+    say(b"\n out:");
+    show_bytes(first(out, 4000));
+    say(b"\n");
     answer.len
-}
-
-// Lends so many numbers and so much memory. Where there are fewer nothing is written.
-fn write_lent(list: &[usize], n: usize, blocks: &[u8], out: &mut [u8], lent: usize) -> usize {
-    if list.len() < n {
-        return 0;
-    }
-    if out.len() < lent {
-        return 0;
-    }
-    write_into(&list[..n], blocks, &mut out[..lent])
 }
 
 // Memory filled with aa, for a file whose last places take three bytes.
@@ -166,64 +103,103 @@ fn out_room() -> [u8; 70000]
     [0xaa; 70000]
 }
 
-// The written file comes to the place of the file, or the file stays.
-fn write(s: &[u8], state: State, goes_on: bool, file: &mut [u8]) -> State {
-    let lent = number(s, state.at);
-    let n = number(s, lent.next);
-    let mut list = [0usize; 400];
-    let mut out = out_room();
-    let next = numbers_at(s, n.next, n.value, &mut list);
-    let blocks = first(file, state.len);
-    let len = write_lent(&list, n.value, blocks, &mut out, lent.value);
-    if goes_on {
-        copy(&out, 0, len, file, 0);
-        return State { at: next, len };
+impl State<'_> {
+    // ---- files
+
+    fn load(&mut self, file: &mut [u8]) {
+        self.len = parts(&mut self.input, file);
+        say(b"file");
+        show(self.len);
+        say(b"\n");
     }
-    State {
-        at: next,
-        len: state.len,
+
+    fn change(&mut self, file: &mut [u8]) {
+        let place = self.input.number();
+        let b = self.input.byte();
+        put(file, place, b);
+        say(b"change");
+        show(place);
+        show(b);
+        say(b"\n");
     }
-}
 
-// ---- listing
-
-fn list(s: &[u8], state: State, file: &[u8]) -> State {
-    let n = number(s, state.at);
-    let text = first(rest(s, n.next), n.value);
-    column_by::print(first(file, state.len), text);
-    State {
-        at: past(n.next, n.value),
-        len: state.len,
+    fn lend(&mut self) {
+        self.len = self.input.number();
+        say(b"lend");
+        show(self.len);
+        say(b"\n");
     }
-}
 
-// ---- the commands
+    // ---- columns
 
-fn run(s: &[u8], state: State, file: &mut [u8]) -> State {
-    let command = byte(s, state.at);
-    let at = past(state.at, 1);
-    let next = State { at, len: state.len };
-    match command {
-        0 => load(s, at, file),
-        1 => open(s, next, file),
-        2 => change(s, next, file),
-        3 => lend(s, at),
-        4 => write(s, next, false, file),
-        5 => write(s, next, true, file),
-        _ => list(s, next, file),
+    fn open(&mut self, file: &[u8]) {
+        let j = self.input.number();
+        let n = self.input.number();
+        for i in 0..n {
+            open_one(first(file, self.len), past(j, i));
+        }
+    }
+
+    // ---- writing
+
+    // Writes by as many numbers as are told, into as much memory as is told: nothing where there is less. The written file comes to the place
+    // of the file, or the file stays.
+    fn write(&mut self, goes_on: bool, file: &mut [u8]) {
+        let lent = self.input.number();
+        let n = self.input.number();
+        let mut list = [0usize; 400];
+        let mut out = out_room();
+        for i in 0..n {
+            let value = self.input.number();
+            if let Some(cell) = list.get_mut(i) {
+                *cell = value;
+            }
+        }
+        let mut len = 0;
+        if n <= list.len() && lent <= out.len() {
+            len = write_into(&list[..n], first(file, self.len), &mut out[..lent]);
+        }
+        if goes_on {
+            copy(&out, len, file, 0);
+            self.len = len;
+        }
+    }
+
+    // ---- listing
+
+    fn list(&mut self, file: &[u8]) {
+        let n = self.input.number();
+        let text = self.input.part(n);
+        column_by::print(first(file, self.len), text);
+    }
+
+    // ---- the commands
+
+    fn run(&mut self, file: &mut [u8]) {
+        let command = Command::from(self.input.byte());
+        match command {
+            Command::Load => self.load(file),
+            Command::Open => self.open(file),
+            Command::Change => self.change(file),
+            Command::Lend => self.lend(),
+            Command::Write => self.write(false, file),
+            Command::WriteOn => self.write(true, file),
+            Command::List => self.list(file),
+        }
     }
 }
 
 // Each command takes a byte at least, so there are no more of them than bytes.
 fn run_all(s: &[u8], file: &mut [u8]) {
-    let mut state = State { at: 0, len: 0 };
-    let mut left = s.len();
-    while 0 < left {
-        if s.len() <= state.at {
+    let mut state = State {
+        input: Input::new(s),
+        len: 0,
+    };
+    for _ in 0..s.len() {
+        if state.input.is_done() {
             return;
         }
-        state = run(s, state, file);
-        left -= 1;
+        state.run(file);
     }
 }
 

@@ -16,117 +16,40 @@ ghost use Rattle.std.specs.Prelude.{◌≡◌, length};
 
 use descriptor::Descriptor;
 use parts_by::{parts, put};
-use script::{byte, first, number, past, say, show, show_byte, show_bytes, show_size};
-use slow_answer::RowGiven;
+use script::{Input, first, say, show, show_bytes, show_each};
 
-// What stands between two commands: the place in the input, the length of the lent block, the column.
+// A command, by its number.
 #[derive(Clone, Copy)]
-struct State {
-    at: usize,
+enum Command {
+    Load,
+    Change,
+    Lend,
+    Tell,
+    Ask,
+    PrintFile,
+    PrintSheet,
+}
+
+impl From<u8> for Command {
+    fn from(number: u8) -> Command {
+        match number {
+            0 => Command::Load,
+            1 => Command::Change,
+            2 => Command::Lend,
+            3 => Command::Tell,
+            4 => Command::Ask,
+            6 => Command::PrintSheet,
+            _ => Command::PrintFile,
+        }
+    }
+}
+
+// What stands between two commands: the input, the length of the lent block, the column.
+#[derive(Clone, Copy)]
+struct State<'a> {
+    input: Input<'a>,
     len: usize,
     column: Descriptor,
-}
-
-// ---- blocks
-
-fn load(s: &[u8], state: State, room: &mut [u8]) -> State {
-    let places = parts(s, state.at, room);
-    say(b"block");
-    show_size(places.to);
-    let mut next = state;
-    next.at = places.at;
-    next.len = places.to;
-    next
-}
-
-fn change(s: &[u8], state: State, room: &mut [u8]) -> State {
-    let place = number(s, state.at);
-    let b = byte(s, place.next);
-    put(room, place.value, b);
-    say(b"change");
-    show_size(place.value);
-    show_byte(b);
-    let mut next = state;
-    next.at = past(place.next, 1);
-    next
-}
-
-fn lend(s: &[u8], state: State) -> State {
-    let n = number(s, state.at);
-    say(b"lend");
-    show_size(n.value);
-    let mut next = state;
-    next.at = n.next;
-    next.len = n.value;
-    next
-}
-
-// ---- columns
-
-fn show_column(d: Descriptor) {
-    say(b"column");
-    show_size(d.kind);
-    show_size(d.encoding);
-    show_size(d.width);
-    show_size(d.zero);
-    show_size(d.rows);
-}
-
-fn tell(s: &[u8], state: State) -> State {
-    let kind = number(s, state.at);
-    let encoding = number(s, kind.next);
-    let width = number(s, encoding.next);
-    let zero = number(s, width.next);
-    let rows = number(s, zero.next);
-    let column = Descriptor {
-        kind: kind.value,
-        encoding: encoding.value,
-        width: width.value,
-        zero: zero.value,
-        rows: rows.value,
-    };
-    show_column(column);
-    State {
-        at: rows.next,
-        len: state.len,
-        column,
-    }
-}
-
-// ---- what is shown
-
-fn show_values(s: &[i64]) {
-    let mut i = 0;
-    while i < s.len() {
-        show(encode::bits_of(s[i]));
-        i += 1;
-    }
-}
-
-fn show_end(n: u32) {
-    show(n as u64);
-}
-
-fn show_ends(s: &[u32]) {
-    let mut i = 0;
-    while i < s.len() {
-        show_end(s[i]);
-        i += 1;
-    }
-}
-
-fn show_row(answer: RowGiven, values: &[i64], flags: &[u8], ends: &[u32], bytes: &[u8]) {
-    say(b"row");
-    show_byte(answer.number);
-    show_size(answer.bytes);
-    say(b" values");
-    show_values(values);
-    say(b" flags:");
-    show_bytes(flags);
-    say(b" ends");
-    show_ends(ends);
-    say(b" bytes:");
-    show_bytes(bytes);
 }
 
 // ---- rows
@@ -142,64 +65,17 @@ fn give(
     bytes: &mut [u8],
 ) {
     let answer = slow::row(d, block, r, values, flags, ends, bytes);
-    show_row(answer, values, flags, ends, bytes);
-}
-
-// Lends areas of these lengths, filled with aa. Where an area is too long nothing is asked.
-fn give_into(
-    d: Descriptor,
-    block: &[u8],
-    r: usize,
-    values: usize,
-    flags: usize,
-    ends: usize,
-    bytes: usize,
-) {
-    if 4 < values {
-        return;
-    }
-    if 4 < flags {
-        return;
-    }
-    if 4 < ends {
-        return;
-    }
-    if 300 < bytes {
-        return;
-    }
-    let mut v = [0xaai64; 4];
-    let mut f = [0xaau8; 4];
-    let mut e = [0xaau32; 4];
-    let mut b = [0xaau8; 300];
-    give(
-        d,
-        block,
-        r,
-        &mut v[0..values],
-        &mut f[0..flags],
-        &mut e[0..ends],
-        &mut b[0..bytes],
-    );
-}
-
-fn ask(s: &[u8], state: State, block: &[u8]) -> State {
-    let r = number(s, state.at);
-    let values = number(s, r.next);
-    let flags = number(s, values.next);
-    let ends = number(s, flags.next);
-    let bytes = number(s, ends.next);
-    give_into(
-        state.column,
-        block,
-        r.value,
-        values.value,
-        flags.value,
-        ends.value,
-        bytes.value,
-    );
-    let mut next = state;
-    next.at = bytes.next;
-    next
+    say(b"row");
+    show(answer.number);
+    show(answer.bytes);
+    say(b" values");
+    show_each(values);
+    say(b" flags:");
+    show_bytes(flags);
+    say(b" ends");
+    show_each(ends);
+    say(b" bytes:");
+    show_bytes(bytes);
 }
 
 // ---- the program `night`
@@ -211,61 +87,105 @@ fn show_differs(differs: bool) {
     }
 }
 
-fn print(file: &[u8], sheet: bool) {
+fn print_file(file: &[u8]) {
     let mut one = whole_file::room();
     let mut other = whole_file::room();
-    if sheet {
-        show_differs(night_by::compare_sheet(b"NAME", file, &mut one, &mut other));
-        return;
-    }
     show_differs(night_by::compare_file(b"NAME", file, &mut one, &mut other));
 }
 
-// ---- the commands
-
-// Those that change no block.
-fn run_on(s: &[u8], state: State, command: u8, block: &[u8]) -> State {
-    if command == 4 {
-        return ask(s, state, block);
-    }
-    print(block, command == 6);
-    state
+fn print_sheet(file: &[u8]) {
+    let mut one = whole_file::room();
+    let mut other = whole_file::room();
+    show_differs(night_by::compare_sheet(b"NAME", file, &mut one, &mut other));
 }
 
-fn run(s: &[u8], state: State, room: &mut [u8]) -> State {
-    let command = byte(s, state.at);
-    let mut next = state;
-    next.at = past(state.at, 1);
-    if command == 0 {
-        return load(s, next, room);
+impl State<'_> {
+    // ---- blocks
+
+    fn load(&mut self, room: &mut [u8]) {
+        self.len = parts(&mut self.input, room);
+        say(b"block");
+        show(self.len);
     }
-    if command == 1 {
-        return change(s, next, room);
+
+    fn change(&mut self, room: &mut [u8]) {
+        let place = self.input.number();
+        let b = self.input.byte();
+        put(room, place, b);
+        say(b"change");
+        show(place);
+        show(b);
     }
-    if command == 2 {
-        return lend(s, next);
+
+    fn lend(&mut self) {
+        self.len = self.input.number();
+        say(b"lend");
+        show(self.len);
     }
-    if command == 3 {
-        return tell(s, next);
+
+    // ---- columns
+
+    fn tell(&mut self) {
+        let d = parts_by::descriptor(&mut self.input);
+        say(b"column");
+        show_each(&[d.kind, d.encoding, d.width, d.zero, d.rows]);
+        self.column = d;
     }
-    run_on(s, next, command, first(room, state.len))
+
+    // Lends areas of the lengths that are told, filled with aa. Where an area is too long nothing is asked.
+    fn ask(&mut self, block: &[u8]) {
+        let r = self.input.number();
+        let values = self.input.number();
+        let flags = self.input.number();
+        let ends = self.input.number();
+        let bytes = self.input.number();
+        if 4 < values || 4 < flags || 4 < ends || 300 < bytes {
+            return;
+        }
+        let mut v = [0xaai64; 4];
+        let mut f = [0xaau8; 4];
+        let mut e = [0xaau32; 4];
+        let mut b = [0xaau8; 300];
+        give(
+            self.column,
+            block,
+            r,
+            &mut v[..values],
+            &mut f[..flags],
+            &mut e[..ends],
+            &mut b[..bytes],
+        );
+    }
+
+    // ---- the commands
+
+    fn run(&mut self, room: &mut [u8]) {
+        let command = Command::from(self.input.byte());
+        match command {
+            Command::Load => self.load(room),
+            Command::Change => self.change(room),
+            Command::Lend => self.lend(),
+            Command::Tell => self.tell(),
+            Command::Ask => self.ask(first(room, self.len)),
+            Command::PrintFile => print_file(first(room, self.len)),
+            Command::PrintSheet => print_sheet(first(room, self.len)),
+        }
+    }
 }
 
 // Each command takes a byte at least, so there are no more of them than bytes.
 fn run_all(s: &[u8], room: &mut [u8]) {
     let mut state = State {
-        at: 0,
+        input: Input::new(s),
         len: 0,
         column: descriptor::unpack([0; 8]),
     };
-    let mut left = s.len();
-    while 0 < left {
-        if s.len() <= state.at {
+    for _ in 0..s.len() {
+        if state.input.is_done() {
             return;
         }
-        state = run(s, state, room);
+        state.run(room);
         say(b"\n");
-        left -= 1;
     }
 }
 

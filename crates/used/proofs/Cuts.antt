@@ -8,14 +8,19 @@ use mathlib.Core.List.{List, [], ◌∷◌}
 use borrow.Author.Tests.{eqb-true, eq-eqb, ne_eqb}
 use lib.Dec.{eqb}
 use lib.ListN.{length, take, drop, get_or}
-use lib.Seq.{take-take}
+use lib.Seq.{take-take, get_or-take, get_or-drop}
 use Rattle.encode.specs.declared.Kind.TheVariants.{Char}
 use Rattle.plain.specs.Rows.{bytes_in, same_bytes}
 use Rattle.plain.specs.Plain.{before_nul, char_at, plain_row}
 use Rattle.plain.proofs.Chars.{length-char}
 use Rattle.plain.proofs.Ranges.{Lies}
-use Rattle.matching.proofs.Pairs.{part_length, part-byte}
+use Rattle.matching.proofs.Pairs.{part_length}
 use Rattle.used.specs.Used.{Cut}
+
+-- a byte of a part
+module _ (a : List ℕ) (from len : ℕ) where
+  part-byte : (i : ℕ) → i < len → get_or (take len (drop from a)) i 0 ≡ get_or a (from + i) 0
+  part-byte i h = rw (get_or-take, get_or-drop)
 
 -- ---- two lists
 -- nothing is left to cut

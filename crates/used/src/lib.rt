@@ -52,12 +52,10 @@ fn first_char(w: usize, n: usize, items: &[u8], others: &[u8], from: usize, len:
     requires { (n ≤ MOST_ITEMS) × (w < 256) × (least_bytes (Kind.Char w) n ≤ length items.now) × Cut w others.now from len }
     ensures { result ≡ index_of (bytes (take len (drop from others.now))) (plain_rows (Kind.Char w) n items.now) }
 {
-    let mut i = 0;
-    while i < n {
+    for i in 0..n {
         if is_char(w, items, i, others, from, len) {
             return i;
         }
-        i += 1;
     }
     n
 }
@@ -68,14 +66,12 @@ fn first_blob(n: usize, items: &[u8], others: &[u8], from: usize, len: usize) ->
 {
     let base = 4 * n;
     let mut at = 0;
-    let mut i = 0;
-    while i < n {
+    for i in 0..n {
         let end = plain::end_at(items, i);
         if matching::same_part(others, from, len, items, base + at, end - at) {
             return i;
         }
         at = end;
-        i += 1;
     }
     n
 }

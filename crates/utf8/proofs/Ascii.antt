@@ -9,7 +9,7 @@ use lib.Dec.{ltb}
 use lib.ListN.{length, get_or, take, drop}
 use lib.Seq.{drop-cons}
 use borrow.Author.Tests.{ltb-true, ltb-false, lt-ltb, le-leb}
-use Rattle.utf8.specs.Utf8.{Due, due, forms, next, after, whole, is_text}
+use Rattle.utf8.specs.Utf8.{Due, due, next, after, whole, is_text}
 use Rattle.utf8.specs.States.{is_ascii}
 
 one_byte : (b : ℕ) → b < 128 → next (due []) b ≡ due []

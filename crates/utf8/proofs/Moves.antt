@@ -1,6 +1,6 @@
 -- The two tables: the class of each of the 256 bytes, and from each of the nine states the move of each byte, which is the one that the
 -- table of forms asks for. Each rule is one test that is computed. Assumes nothing.
-use Prim.Native.Nat.{ℕ, zero, suc, ◌+◌, ◌<◌, ◌≤◌}
+use Prim.Native.Nat.{ℕ, zero, suc, ◌+◌, ◌<◌}
 use native.Mathlib.Nat.{add-zero, add-suc, suc-add, zero-add, le_of_suc-le-suc, not-suc-le-zero}
 use native.Mathlib.Omega.{arith}
 use mathlib.Core.Bool.{Bool, true, false, ◌&&◌, and-eq-true_iff}

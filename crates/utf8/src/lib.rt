@@ -7,12 +7,6 @@ ghost use Rattle.std.specs.Prelude.{◌≡◌, ◌<◌, ◌≤◌, ◌+◌, ◌-
 ghost use Rattle.utf8.specs.Utf8.{is_text, after, next};
 ghost use Rattle.utf8.specs.States.{class_table, due_in, move_table, is_ascii};
 
-fn wide(x: u8) -> usize
-    ensures { (result ≡ x) × (result < 256) }
-{
-    x as usize
-}
-
 // ---- byte after byte
 
 // The state after a byte, by tables that are lent: a table of the function's own would be laid out anew at each byte.
@@ -20,8 +14,8 @@ fn moved(classes: &[u8; 256], moves: &[u8; 108], state: u8, b: u8) -> u8
     requires { (classes.now ≡ class_table) × (moves.now ≡ move_table) × (state < 9) }
     ensures { (result < 9) × (due_in result ≡ next (due_in state) b) }
 {
-    let class = wide(classes[wide(b)]);
-    moves[class + wide(state)]
+    let class = usize::from(classes[usize::from(b)]);
+    moves[class + usize::from(state)]
 }
 
 // The state after a byte. The first state is 0, and in it alone a text may end.
@@ -40,10 +34,8 @@ fn walk(classes: &[u8; 256], moves: &[u8; 108], s: &[u8], from: usize, n: usize)
     ensures { (result < 9) × (due_in result ≡ after (due_in 0) (take n (drop from s.now))) }
 {
     let mut state: u8 = 0;
-    let mut i = 0;
-    while i < n {
+    for i in 0..n {
         state = moved(classes, moves, state, s[from + i]);
-        i += 1;
     }
     state
 }
@@ -59,22 +51,14 @@ pub fn is_text_by(classes: &[u8; 256], moves: &[u8; 108], s: &[u8], from: usize,
 
 // ---- many bytes at once
 
-fn larger(a: u8, b: u8) -> u8
-    ensures { (a ≤ b → result ≡ b) × (b ≤ a → result ≡ a) }
-{
-    if a < b { b } else { a }
-}
-
 // Whether each of the `n` bytes from `from` on is below 128. None is passed over, which lets the machine code take many at a time.
 pub fn is_ascii(s: &[u8], from: usize, n: usize) -> bool
     requires { from + n ≤ length s.now }
     ensures { result ≡ is_ascii (take n (drop from s.now)) }
 {
     let mut top: u8 = 0;
-    let mut i = 0;
-    while i < n {
-        top = larger(top, s[from + i]);
-        i += 1;
+    for i in 0..n {
+        top = top.max(s[from + i]);
     }
     top < 128
 }

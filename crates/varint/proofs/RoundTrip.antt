@@ -1,4 +1,5 @@
 -- What is written is read back: a spelling, followed by anything, decodes to its number and its length. And how long spellings are. Assumes nothing.
+use Rattle.std.specs.Prelude.{Option}
 use Prim.Native.Nat.{ℕ, zero, suc, ◌+◌, ◌-◌, ◌*◌, ◌/◌, ◌%◌, ◌^◌, ◌≤◌, ◌<◌}
 use native.Mathlib.Numerals.{add-one}
 use native.Mathlib.Omega.{arith}
@@ -12,12 +13,11 @@ use lib.Seq.{drop_at, length-take-le}
 use borrow.Author.Tests.{lt-ltb, le-ltb, ne_eqb}
 use Rattle.area.specs.Area.{over}
 use Rattle.varint.specs.declared.Count.{Count}
-use Rattle.varint.specs.declared.Count.TheVariants.{Number}
-use Rattle.varint.specs.Varint.{more, count_within, in_32_bits, count_of, count_at, spell_within, spelling}
+use Rattle.varint.specs.Varint.{counted, more, count_within, in_32_bits, count_of, count_at, spell_within, spelling}
 use Rattle.area.proofs.Laws.{lt-or-ge}
 use Rattle.varint.proofs.Spelling.{spell_last, spell-more, size1, size2, size3, size4, size5}
 
-count-last : (k b : ℕ) (s : List ℕ) → b < 128 → count_within (suc k) (b ∷ s) ≡ Number b 1
+count-last : (k b : ℕ) (s : List ℕ) → b < 128 → count_within (suc k) (b ∷ s) ≡ counted b 1
 unfolding count_within
 count-last k b s h = simp (lt-ltb _ _ h)
 
@@ -25,18 +25,18 @@ count-more : (k b : ℕ) (s : List ℕ) → 128 ≤ b → count_within (suc k) (
 unfolding count_within
 count-more k b s h = simp (le-ltb _ _ h)
 
-more-is : (low v n m w : ℕ) (r : Count) → r ≡ Number v n → 0 < v → low + 128 * v ≡ w → suc n ≡ m → more low r ≡ Number w m
+more-is : (low v n m w : ℕ) (r : Option Count) → r ≡ counted v n → 0 < v → low + 128 * v ≡ w → suc n ≡ m → more low r ≡ counted w m
 unfolding more
 more-is low v n m w r e z p q = let some = ne_eqb v 0 (λ (h : v ≡ 0). omega arith) in rw (e, some, p, add-one, q)
 
 -- by the bytes that are allowed: seven bits each
 count-spell : (k v : ℕ) (rest : List ℕ) → v < 128 ^ suc k
-    → count_within (suc k) (spell_within (suc k) v ++ rest) ≡ Number v (length (spell_within (suc k) v))
+    → count_within (suc k) (spell_within (suc k) v ++ rest) ≡ counted v (length (spell_within (suc k) v))
 count-spell zero v rest h = rw (spell_last 0 v h) (count-last 0 v rest h)
 count-spell (suc k) v rest h = go (count-spell k (v / 128) rest (omega arith))
   where
-    go : count_within (suc k) (spell_within (suc k) (v / 128) ++ rest) ≡ Number (v / 128) (length (spell_within (suc k) (v / 128)))
-        → count_within (suc (suc k)) (spell_within (suc (suc k)) v ++ rest) ≡ Number v (length (spell_within (suc (suc k)) v))
+    go : count_within (suc k) (spell_within (suc k) (v / 128) ++ rest) ≡ counted (v / 128) (length (spell_within (suc k) (v / 128)))
+        → count_within (suc (suc k)) (spell_within (suc (suc k)) v ++ rest) ≡ counted v (length (spell_within (suc (suc k)) v))
     go ih = ⊎_elim
         (λ (l : v < 128). rw (spell_last (suc k) v l) (count-last (suc k) v rest l))
         (λ (l : 128 ≤ v). rw (spell-more (suc k) v l)
@@ -44,12 +44,12 @@ count-spell (suc k) v rest h = go (count-spell k (v / 128) rest (omega arith))
         (lt-or-ge v 128)
 
 -- ---- the round trip: at the head of a list, and at a place of an area that it was laid over
-pub round_trip : (v : ℕ) (rest : List ℕ) → v < 2 ^ 32 → count_of (spelling v ++ rest) ≡ Number v (length (spelling v))
+pub round_trip : (v : ℕ) (rest : List ℕ) → v < 2 ^ 32 → count_of (spelling v ++ rest) ≡ counted v (length (spelling v))
 unfolding count_of spelling in_32_bits
 round_trip v rest h = rw (count-spell 4 v rest (omega arith)) (simp (lt-ltb _ _ h))
 
 pub round-trip-at : (area : List ℕ) (at v : ℕ) → v < 2 ^ 32 → at + length (spelling v) ≤ length area
-    → count_at (over area at (spelling v)) at ≡ Number v (length (spelling v))
+    → count_at (over area at (spelling v)) at ≡ counted v (length (spelling v))
 unfolding count_at over
 round-trip-at area at v h r =
     let l : length (take at area) ≡ at = length-take-le at area (omega arith) in

@@ -5,12 +5,11 @@ use mathlib.Core.Bool.{Bool, true, false, cond}
 use mathlib.Core.List.{List}
 use mathlib.Core.Path.{◌≡◌, refl, ap, subst, ◌∙◌}
 use lib.Dec.{eqb}
+use Rattle.std.specs.Prelude.{Result, Ok, Err}
 use Rattle.encode.specs.Kinds.{numbered, kind_of}
 use Rattle.format.specs.Blocks.{column_of, with_encoding}
 use Rattle.block.specs.declared.Given.{Given}
-use Rattle.block.specs.declared.Opened.{Opened}
-use Rattle.block.specs.declared.Opened.TheVariants.{Open, Refused}
-use Rattle.block.specs.declared.Opening.{Opening}
+use Rattle.block.specs.declared.Reader.{Reader}
 use Rattle.block.specs.Reading.{Areas, Batch, refused_batch, no_reader, asks_nothing, read_in, read, opening_of}
 use Rattle.view.specs.declared.Steps.{Steps}
 use Rattle.view.specs.Viewing.{read_from}
@@ -48,16 +47,16 @@ module _ (b : List ℕ) (skip size : ℕ) (a : Areas) where
   unopened e true = refl
   unopened e false = ap (with_number e) no-reader-refused
 
-  tells : (x : Opened) → told (stepwise (opening_of x) b skip size a) ≡ read_from (opening_of x) b skip size a
+  tells : (x : Result Reader ℕ) → told (stepwise (opening_of x) b skip size a) ≡ read_from (opening_of x) b skip size a
   unfolding first_refusal read_from opening_of
-  tells (Open r) = refl
-  tells (Refused e) = unopened e (eqb e 0)
+  tells (Ok r) = refl
+  tells (Err e) = unopened e (eqb e 0)
 
   -- what is said of the four areas, after the two calls and by the definition
   abbrev Hold : Areas → Areas → Type 0
   Hold y z = (y.values ≡ z.values) × ((y.flags ≡ z.flags) × ((y.ends ≡ z.ends) × (y.bytes ≡ z.bytes)))
 
-  pub read_told : (x : Opened) (st : Steps) (e : ℕ) (y : Areas) → e ≡ number_in st
+  pub read_told : (x : Result Reader ℕ) (st : Steps) (e : ℕ) (y : Areas) → e ≡ number_in st
       → (st ≡ (stepwise (opening_of x) b skip size a).answer) × Hold y (stepwise (opening_of x) b skip size a).areas
       → (told_by e st ≡ (read_from (opening_of x) b skip size a).answer) × Hold y (read_from (opening_of x) b skip size a).areas
   read_told x st e y p q =

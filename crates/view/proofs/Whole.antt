@@ -8,7 +8,6 @@ use Rattle.block.specs.declared.Reader.{Reader}
 use Rattle.block.specs.declared.Given.{Given}
 use Rattle.block.specs.Reading.{Areas}
 use Rattle.block.proofs.Coincide.{same-areas}
-use Rattle.view.specs.declared.View.{View}
 use Rattle.view.specs.declared.Viewed.{Viewed}
 use Rattle.view.specs.declared.Taken.{Taken}
 use Rattle.view.specs.declared.Unread.{Unread}

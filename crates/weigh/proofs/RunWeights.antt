@@ -5,6 +5,7 @@ use native.Mathlib.Omega.{arith}
 use mathlib.Core.Bool.{Bool, true, false, cond}
 use mathlib.Core.List.{List}
 use mathlib.Core.Path.{◌≡◌, refl, sym, ap, subst, ◌∙◌}
+use Rattle.std.specs.Prelude.{Option, Some, None}
 use lib.ListN.{length, take, drop, length-take, length-drop}
 use Rattle.limits.specs.Limits.{MOST_BYTES}
 use Rattle.encode.specs.declared.Kind.{Kind}
@@ -14,14 +15,10 @@ use Rattle.plain.specs.Rows.{bytes_in}
 use Rattle.plain.specs.Plain.{end_at, start_at, blob_at, ends_good, plain_row}
 use Rattle.rle.specs.declared.Spot.{Spot}
 use Rattle.rle.specs.declared.Piece.{Piece}
-use Rattle.rle.specs.declared.Piece.TheVariants.{Rows, Stuck as NoPiece}
 use Rattle.dict.specs.Dictionary.{entry_row, entry_good}
+use Rattle.rle.specs.Pieces.{run_piece}
 use Rattle.source.specs.declared.Source.{Source}
 use Rattle.source.specs.declared.Look.{Look}
-use Rattle.source.specs.declared.Look.TheVariants.{Item, Wrong}
-use Rattle.source.specs.declared.Weight.{Weight}
-use Rattle.source.specs.declared.Weight.TheVariants.{Sum, Broken}
-use Rattle.source.specs.declared.Weighed.TheVariants.{Stuck}
 use Rattle.source.specs.Rows.{shown_by, seen_by, text_of, size_by, good_by, piece_of, steps_of, look_by, capped, weight_of, weighed_by, Texts}
 use Rattle.source.proofs.AtPlace.{part_length, entry-there, entry-some, text-none, text-some, text-shown, sizes, unseen-bad, seen-good}
 use Rattle.source.proofs.Looks.{Tells, tells}
@@ -30,30 +27,30 @@ use Rattle.weigh.proofs.Weights.{Weighing, capped_small, weighing-stuck, weighin
 -- ---- an item that is looked at, counted from 1 on
 module _ (kind : Kind) (n : ℕ) (part : List ℕ) where
   -- ---- the returns of `blob_weight`
-  pub weight-none : (slot : ℕ) → slot ≡ 0 → Sum 0 ≡ weight_of kind n part slot
+  pub weight-none : (slot : ℕ) → slot ≡ 0 → Some 0 ≡ weight_of kind n part slot
   unfolding weight_of text_of bytes_in entry_row entry_good
   weight-none slot z = rw z
 
   module _ (slot : ℕ) (z : slot ≡ 0 → ⊥) (h : slot - 1 < n) where
-    pub weight-bad : false ≡ ends_good kind n part (slot - 1) → Broken ≡ weight_of kind n part slot
+    pub weight-bad : false ≡ ends_good kind n part (slot - 1) → None ≡ weight_of kind n part slot
     unfolding weight_of
     weight-bad e = rw (← entry-there kind n part slot z h e)
 
     pub weight-some : true ≡ ends_good kind n part (slot - 1) → (from len : ℕ) → from + len ≤ length part
-        → take len (drop from part) ≡ bytes_in (plain_row kind n part (slot - 1)) → Sum len ≡ weight_of kind n part slot
+        → take len (drop from part) ≡ bytes_in (plain_row kind n part (slot - 1)) → Some len ≡ weight_of kind n part slot
     unfolding weight_of
-    weight-some e from len m q = rw (← entry-there kind n part slot z h e) (ap Sum (part_length part from len m (text-some kind n part slot z q)))
+    weight-some e from len m q = rw (← entry-there kind n part slot z h e) (ap Some (part_length part from len m (text-some kind n part slot z q)))
 
   -- and what it tells of an item: it is good, and so many bytes long
-  abbrev Weighty : ℕ → Weight → Type 0
-  Weighty slot (Sum len) = (entry_good kind n part slot ≡ true) × (len ≡ length (text_of kind n part slot))
-  Weighty slot Broken = entry_good kind n part slot ≡ false
+  abbrev Weighty : ℕ → Option ℕ → Type 0
+  Weighty slot (Some len) = (entry_good kind n part slot ≡ true) × (len ≡ length (text_of kind n part slot))
+  Weighty slot None = entry_good kind n part slot ≡ false
 
-  pub weighty : (slot : ℕ) {x y : Weight} → x ≡ weight_of kind n part slot → x ≡ y → Weighty slot y
+  pub weighty : (slot : ℕ) {x : Option ℕ} → x ≡ weight_of kind n part slot → Weighty slot x
   unfolding weight_of
-  weighty slot e q = subst (Weighty slot) (sym e ∙ q) (go (entry_good kind n part slot) refl)
+  weighty slot e = subst (Weighty slot) (sym e) (go (entry_good kind n part slot) refl)
     where
-      go : (b : Bool) → entry_good kind n part slot ≡ b → Weighty slot (cond b (Sum (length (text_of kind n part slot))) Broken)
+      go : (b : Bool) → entry_good kind n part slot ≡ b → Weighty slot (cond b (Some (length (text_of kind n part slot))) None)
       go true h = (h, refl)
       go false h = h
 
@@ -111,21 +108,30 @@ module _ (s : Source) (marks items counts : List ℕ) (n : ℕ) (from : Spot) wh
   abbrev pub Weighs : Spot → ℕ → ℕ → Type 0
   Weighs at left total = Weighing (good_by s marks items) (size_by s marks items) s.coded s.runs counts n from at left total
 
-  module _ {at : Spot} {left total : ℕ} (w : Weighs at left total) (l : 0 < left)
-      {r : Look} (q : r ≡ look_by s marks at.run (piece_of s counts at left)) where
-    pub weighs-wrong : r ≡ Wrong → Stuck ≡ weighed_by (good_by s marks items) (size_by s marks items) (steps_of s counts n from)
-    weighs-wrong e = go (piece_of s counts at left) refl (subst (Tells s marks at.run _) (sym q ∙ e) (tells s marks at.run _))
+  module _ {at : Spot} {left total : ℕ} (w : Weighs at left total) (l : 0 < left) where
+    pub weighs-wrong : None ≡ look_by s marks at.run (piece_of s counts at left)
+        → None ≡ weighed_by (good_by s marks items) (size_by s marks items) (steps_of s counts n from)
+    weighs-wrong q = go (piece_of s counts at left) refl (subst (Tells s marks at.run _) (sym q) (tells s marks at.run _))
       where
-        go : (p : Piece) → p ≡ piece_of s counts at left → Tells s marks at.run p Wrong
-            → Stuck ≡ weighed_by (good_by s marks items) (size_by s marks items) (steps_of s counts n from)
-        go NoPiece g h = weighing-stuck w l g refl
-        go (Rows k t) g h = weighing-broken w l g refl h.0 (unseen-bad s marks at.run items h.1)
+        go : (p : Option Piece) → p ≡ piece_of s counts at left → Tells s marks at.run p None
+            → None ≡ weighed_by (good_by s marks items) (size_by s marks items) (steps_of s counts n from)
+        go None g h = weighing-stuck w l g refl
+        go (Some x) g h = weighing-broken w l g refl h.0 (unseen-bad s marks at.run items h.1)
 
-    module _ {seen k : ℕ} {t : Spot} (e : r ≡ Item seen k t) where
-      told : Tells s marks at.run (piece_of s counts at left) (Item seen k t)
-      told = subst (Tells s marks at.run _) (sym q ∙ e) (tells s marks at.run _)
+    module _ {x : Look} (q : Some x ≡ look_by s marks at.run (piece_of s counts at left)) where
+      abbrev seen : ℕ
+      seen = x.seen
 
-      pub weighs-piece : piece_of s counts at left ≡ Rows k t
+      abbrev k : ℕ
+      k = x.rows
+
+      abbrev t : Spot
+      t = x.next
+
+      told : Tells s marks at.run (piece_of s counts at left) (Some x)
+      told = subst (Tells s marks at.run _) (sym q) (tells s marks at.run _)
+
+      pub weighs-piece : piece_of s counts at left ≡ Some (run_piece k t)
       weighs-piece = told.0
 
       pub weighs-seen : (seen ≤ s.items) × (0 < seen → seen ≡ seen_by s.marks marks at.run)
@@ -139,7 +145,7 @@ module _ (s : Source) (marks items counts : List ℕ) (n : ℕ) (from : Spot) wh
 
         pub weighs-bad :
             entry_good kind s.items items seen ≡ false
-            → Stuck ≡ weighed_by (good_by s marks items) (size_by s marks items) (steps_of s counts n from)
+            → None ≡ weighed_by (good_by s marks items) (size_by s marks items) (steps_of s counts n from)
         weighs-bad h = let m : 0 < k = told.3 (entry-some kind s.items items seen h) in weighing-broken w l refl weighs-piece m (good h m)
 
         pub weighs-on : entry_good kind s.items items seen ≡ true

@@ -7,17 +7,16 @@ use mathlib.Core.List.{List, ◌++◌}
 use mathlib.Core.Logic.{⊎_elim}
 use mathlib.Core.Path.{◌≡◌, refl, sym, ◌∙◌}
 use lib.ListN.{replicate}
+use Rattle.std.specs.Prelude.{Some, None, Option}
 use borrow.Author.Tests.{lt-ltb, le-ltb}
 use Rattle.area.proofs.Laws.{lt-or-ge}
 use Rattle.limits.specs.Limits.{MOST_BYTES, MOST_GIVEN}
 use Rattle.plain.specs.Plain.{all_of}
 use Rattle.rle.specs.declared.Spot.{Spot}
 use Rattle.rle.specs.declared.Piece.{Piece}
-use Rattle.rle.specs.declared.Piece.TheVariants.{Rows, Stuck as NoPiece}
 use Rattle.rle.specs.Stepping.{Steps, stuck, rows, before}
-use Rattle.rle.specs.Pieces.{piece_in, steps_in}
-use Rattle.source.specs.declared.Weighed.TheVariants.{Total, Stuck}
-use Rattle.source.specs.Rows.{StartsBy, capped, sum_of, weighed_by}
+use Rattle.rle.specs.Pieces.{run_piece, piece_in, steps_in}
+use Rattle.source.specs.Rows.{StartsBy, capped, sum_of, weighed, weighed_by}
 use Rattle.source.proofs.Folds.{all_append, all_same, all-bad, sum-append, sum_same}
 use Rattle.source.proofs.Progress.{Progress, progress_start, progress-end, progress-stuck, progress-on, whole-on}
 use Rattle.source.proofs.Filled.{run-same}
@@ -50,16 +49,16 @@ capped-capped a b = ⊎_elim
 
 -- ---- the weight of all rows: there is none where one isn't good
 module _ (p : ℕ → Bool) (f : ℕ → ℕ) where
-  weighed-bad : (is : List ℕ) (w : Steps) → all_of p is ≡ false → Stuck ≡ weighed_by p f (before is w)
+  weighed-bad : (is : List ℕ) (w : Steps) → all_of p is ≡ false → None ≡ weighed_by p f (before is w)
   unfolding weighed_by before
   weighed-bad is stuck h = refl
   weighed-bad is (rows js t) h = rw (all_append p is js, h)
 
-  weighed-good : (is : List ℕ) (t : Spot) → all_of p is ≡ true → Total (capped (sum_of f is)) t ≡ weighed_by p f (rows is t)
+  weighed-good : (is : List ℕ) (t : Spot) → all_of p is ≡ true → Some (weighed (capped (sum_of f is)) t) ≡ weighed_by p f (rows is t)
   unfolding weighed_by
   weighed-good is t h = rw h
 
-  weighed-stuck : {w : Steps} → w ≡ stuck → Stuck ≡ weighed_by p f w
+  weighed-stuck : {w : Steps} → w ≡ stuck → None ≡ weighed_by p f w
   unfolding weighed_by
   weighed-stuck e = rw e
 
@@ -84,15 +83,15 @@ module _ {p : ℕ → Bool} {f : ℕ → ℕ} {coded : Bool} {runs : ℕ} {count
   pub weighing-small : total ≤ past
   weighing-small = omega (arith, w.weight, capped_le (sum_of f w.progress.done))
 
-  pub weighing-end : left ≤ 0 → Total total at ≡ weighed_by p f (steps_in coded runs counts n from)
+  pub weighing-end : left ≤ 0 → Some (weighed total at) ≡ weighed_by p f (steps_in coded runs counts n from)
   weighing-end h = rw (w.weight, progress-end w.progress h) (weighed-good p f w.progress.done at w.right)
 
-  module _ (l : 0 < left) {x : Piece} (e : x ≡ piece_in coded runs counts at left) where
-    pub weighing-stuck : x ≡ NoPiece → Stuck ≡ weighed_by p f (steps_in coded runs counts n from)
+  module _ (l : 0 < left) {x : Option Piece} (e : x ≡ piece_in coded runs counts at left) where
+    pub weighing-stuck : x ≡ None → None ≡ weighed_by p f (steps_in coded runs counts n from)
     weighing-stuck b = weighed-stuck p f (progress-stuck w.progress l e b)
 
-    module _ {k : ℕ} {t : Spot} (b : x ≡ Rows k t) where
-      pub weighing-broken : 0 < k → p at.run ≡ false → Stuck ≡ weighed_by p f (steps_in coded runs counts n from)
+    module _ {k : ℕ} {t : Spot} (b : x ≡ Some (run_piece k t)) where
+      pub weighing-broken : 0 < k → p at.run ≡ false → None ≡ weighed_by p f (steps_in coded runs counts n from)
       weighing-broken m h =
           rw (whole-on w.progress l e b) (weighed-bad p f (w.progress.done ++ replicate k at.run) _ (all-bad p w.progress.done k at.run m h))
 

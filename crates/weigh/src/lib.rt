@@ -11,7 +11,7 @@ ghost use Rattle.source.specs.Rows.{size_by, good_by, Ready, Starts, steps_of, c
 
 use encode::Kind;
 use rle::Spot;
-use source::{Look, Source, Weighed, Weight};
+use source::{Source, Weighed};
 
 // What stands for all sums that are more than a read can give.
 const PAST_GIVEN: usize = limits::MOST_GIVEN + 1;
@@ -37,26 +37,18 @@ fn weigh_fixed(
     items: &[u8],
     from: Spot,
     n: usize,
-) -> Weighed
+) -> Option<Weighed>
     requires { Ready s marks.now items.now × Starts s from n × (Texts s.kind → ⊥) }
     ensures { result ≡ weighed_by (good_by s marks.now items.now) (size_by s marks.now items.now) (steps_of s counts.now n from) }
 {
     let mut at = from;
     let mut left = n;
     while 0 < left {
-        let look = source::seen_run(s, counts, marks, items, at, left);
-        let Look::Item {
-            seen: _,
-            rows,
-            next,
-        } = look
-        else {
-            return Weighed::Stuck;
-        };
-        left -= rows;
-        at = next;
+        let look = source::seen_run(s, counts, marks, items, at, left)?;
+        left -= look.rows;
+        at = look.next;
     }
-    Weighed::Total { bytes: 0, next: at }
+    Some(Weighed { bytes: 0, next: at })
 }
 
 fn weigh_chars(
@@ -67,7 +59,7 @@ fn weigh_chars(
     items: &[u8],
     from: Spot,
     n: usize,
-) -> Weighed
+) -> Option<Weighed>
     requires { Ready s marks.now items.now × Starts s from n × (s.kind ≡ Char w) × (w < 256) }
     ensures { result ≡ weighed_by (good_by s marks.now items.now) (size_by s marks.now items.now) (steps_of s counts.now n from) }
 {
@@ -75,39 +67,36 @@ fn weigh_chars(
     let mut left = n;
     let mut total: usize = 0;
     while 0 < left {
-        let look = source::seen_run(s, counts, marks, items, at, left);
-        let Look::Item { seen, rows, next } = look else {
-            return Weighed::Stuck;
-        };
-        let slot = source::shown_of(s, marks, items, at.run, seen);
+        let look = source::seen_run(s, counts, marks, items, at, left)?;
+        let slot = source::shown_of(s, marks, items, at.run, look.seen);
         let range = source::char_of(w, s.items, items, slot);
-        total = heavier(total, rows, range.len);
-        left -= rows;
-        at = next;
+        total = heavier(total, look.rows, range.len);
+        left -= look.rows;
+        at = look.next;
     }
-    Weighed::Total {
+    Some(Weighed {
         bytes: total,
         next: at,
-    }
+    })
 }
 
 // The bytes of a blob item that is looked at, counted from 1 on; or it breaks the rule of the ends.
-fn blob_weight(n: usize, items: &[u8], slot: usize) -> Weight
+fn blob_weight(n: usize, items: &[u8], slot: usize) -> Option<usize>
     requires { (slot ≤ n) × (n ≤ MOST_ITEMS) × (least_bytes blob n ≤ length items.now) }
     ensures { result ≡ weight_of blob n items.now slot }
 {
     if slot == 0 {
-        return Weight::Sum(0);
+        return Some(0);
     }
     let from = plain::start_at(items, slot - 1);
     let to = plain::end_at(items, slot - 1);
     if to < from {
-        return Weight::Broken;
+        return None;
     }
     if items.len() - 4 * n < to {
-        return Weight::Broken;
+        return None;
     }
-    Weight::Sum(to - from)
+    Some(to - from)
 }
 
 // The bytes of a row that shows an item of `len` bytes, or none.
@@ -124,7 +113,7 @@ fn weigh_blobs(
     items: &[u8],
     from: Spot,
     n: usize,
-) -> Weighed
+) -> Option<Weighed>
     requires { Ready s marks.now items.now × Starts s from n × ((text : Bool) × (s.kind ≡ Blob text)) }
     ensures { result ≡ weighed_by (good_by s marks.now items.now) (size_by s marks.now items.now) (steps_of s counts.now n from) }
 {
@@ -132,27 +121,28 @@ fn weigh_blobs(
     let mut left = n;
     let mut total: usize = 0;
     while 0 < left {
-        let look = source::seen_run(s, counts, marks, items, at, left);
-        let Look::Item { seen, rows, next } = look else {
-            return Weighed::Stuck;
-        };
-        let weight = blob_weight(s.items, items, seen);
-        let Weight::Sum(len) = weight else {
-            return Weighed::Stuck;
-        };
-        let slot = source::shown_of(s, marks, items, at.run, seen);
-        total = heavier(total, rows, len_of(slot, len));
-        left -= rows;
-        at = next;
+        let look = source::seen_run(s, counts, marks, items, at, left)?;
+        let len = blob_weight(s.items, items, look.seen)?;
+        let slot = source::shown_of(s, marks, items, at.run, look.seen);
+        total = heavier(total, look.rows, len_of(slot, len));
+        left -= look.rows;
+        at = look.next;
     }
-    Weighed::Total {
+    Some(Weighed {
         bytes: total,
         next: at,
-    }
+    })
 }
 
 // Looks at the next `n` rows.
-pub fn weigh(s: Source, counts: &[u8], marks: &[u8], items: &[u8], from: Spot, n: usize) -> Weighed
+pub fn weigh(
+    s: Source,
+    counts: &[u8],
+    marks: &[u8],
+    items: &[u8],
+    from: Spot,
+    n: usize,
+) -> Option<Weighed>
     requires { Ready s marks.now items.now × Starts s from n }
     ensures { result ≡ weighed_by (good_by s marks.now items.now) (size_by s marks.now items.now) (steps_of s counts.now n from) }
 {

@@ -8,11 +8,10 @@ use Rattle.limits.specs.Refusals.{ROOM}
 use Rattle.encode.specs.declared.Kind.{Kind}
 use Rattle.plain.specs.Rows.{Row}
 use Rattle.format.specs.declared.Encoding.{Encoding}
-use Rattle.format.specs.declared.Column.TheVariants.{Of}
-use Rattle.format.specs.Blocks.{column_of, block_of, stored_form}
+use Rattle.format.specs.Blocks.{column_of, block_of, stored_form, column}
 use Rattle.append.specs.Appending.{Lent}
 use Rattle.builder.specs.declared.Builder.{Builder}
-use Rattle.builder.specs.declared.Created.TheVariants.{New}
+use Rattle.std.specs.Prelude.{Ok, Some}
 use Rattle.builder.specs.Building.{created}
 use Rattle.builder.specs.Finishing.{Finish}
 use Rattle.building_laws.specs.Built.{finish_due}
@@ -28,8 +27,8 @@ use Rattle.whole_way_laws.specs.WholeWay.{rows_done, finished_after, written, re
 use Rattle.whole_way_laws.proofs.Written.{done-if-held, short-if-not, held-if-done, block_written, behind-stays}
 use Rattle.whole_way_laws.proofs.CountedRows.{done-among-expected}
 
-module _ (kind encoding width target key : ℕ) (k : Kind) (e : Encoding) (column : column_of kind encoding width ≡ Of k e)
-    (r : Builder) (new : created kind encoding width target key ≡ New r) where
+module _ (kind encoding width target key : ℕ) (k : Kind) (e : Encoding) (column : column_of kind encoding width ≡ Some (column k e))
+    (r : Builder) (new : created kind encoding width target key ≡ Ok r) where
   -- The rows accepted are those whose append was answered with 0, in order; so a caller who counts these answers opens with the number of rows accepted.
   pub accepted-as-answered : (cs : List BuilderCall) → Carried k e r cs → accepted_in k e [] cs ≡ rows_done k cs (answers r cs)
   accepted-as-answered cs h = rw (any-building-calls kind encoding width target key k e column r new cs h) (done-among-expected k e target key cs [])

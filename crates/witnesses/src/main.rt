@@ -3,90 +3,84 @@
 // the block. The file stdout has the figures of the theorems.
 #![tactic(auto)]
 
-use builder::{Builder, Created};
+use builder::Builder;
+use cells::Areas;
 use script::{first, refused, say};
-use show_view::size;
-
-fn show_digits(b: u8) {
-    say(b" ");
-    io::print_hex(1, b as u64, 2);
-}
-
-// Bytes in hex, each behind a space.
-fn show_block(block: &[u8]) {
-    let mut i = 0;
-    while i < block.len() {
-        show_digits(block[i]);
-        i += 1;
-    }
-}
+use show_view::decimal;
 
 // What is estimated and what is finished, by a builder and its areas.
-fn show(
-    builder: Builder,
-    items: &[u8],
-    ends: &[u32],
-    flags: &[u8],
-    counts: &[u32],
-    keys: &[i32],
-    lens: &[u8],
-) {
+fn show(builder: Builder, areas: &Areas) {
     let estimated = builder.estimate();
     refused(estimated.number);
     say(b" estimate");
-    size(estimated.size);
+    decimal(estimated.size);
     let mut block = [0u8; 30];
-    let finished = builder.finish(items, ends, flags, counts, keys, lens, &mut block);
+    let finished = builder.finish(
+        areas.items,
+        areas.ends,
+        areas.flags,
+        areas.counts,
+        areas.keys,
+        areas.lens,
+        &mut block,
+    );
     refused(finished.number);
     say(b" length");
-    size(finished.len);
-    let counted = builder.counted;
+    decimal(finished.len);
     say(b" runs");
-    size(counted.runs);
+    decimal(builder.counted.runs);
     say(b" block");
-    show_block(first(&block, finished.len));
+    for b in first(&block, finished.len) {
+        say(b" ");
+        io::print_hex(1, u64::from(*b), 2);
+    }
 }
 
-// True, or null, n times by one call. One slot of each area is enough, since equal rows are one run.
-fn append(builder: Builder, present: bool, n: usize) {
-    let mut items = [0u8; 1];
-    let mut ends = [0u32; 1];
-    let mut flags = [0u8; 1];
-    let mut counts = [0u32; 1];
-    let mut keys = [0i32; 1];
-    let mut lens = [0u8; 1];
-    let none = [0u8; 1];
+// True, or null, n times by one call, and the builder after it.
+fn append_into(builder: Builder, areas: &mut Areas, present: bool, n: usize) -> Builder {
     let appended = builder.append_times(
-        &mut items,
-        &mut ends,
-        &mut flags,
-        &mut counts,
-        &mut keys,
-        &mut lens,
+        areas.items,
+        areas.ends,
+        areas.flags,
+        areas.counts,
+        areas.keys,
+        areas.lens,
         present,
         1,
-        &none,
+        &[0],
         n,
     );
     refused(appended.number);
-    let next = appended.builder;
-    show(next, &items, &ends, &flags, &counts, &keys, &lens);
+    appended.builder
+}
+
+// One slot of each area is enough, since equal rows are one run.
+fn append(builder: Builder, present: bool, n: usize) {
+    let mut areas = Areas {
+        items: &mut [0u8; 1],
+        ends: &mut [0u32; 1],
+        flags: &mut [0u8; 1],
+        counts: &mut [0u32; 1],
+        keys: &mut [0i32; 1],
+        lens: &mut [0u8; 1],
+    };
+    let next = append_into(builder, &mut areas, present, n);
+    show(next, &areas);
 }
 
 // A column of bool, its kind the number 0.
 fn witness(encoding: usize, present: bool, n: usize) {
     say(b"encoding");
-    size(encoding);
+    decimal(encoding);
     say(b" rows");
-    size(n);
+    decimal(n);
     say(b":");
-    let created = builder::create(0, encoding, 0, 1000);
-    match created {
-        Created::New(builder) => {
+    match builder::create(0, encoding, 0, 1000) {
+        Ok(builder) => {
             append(builder, present, n);
         }
-        Created::Refused(number) => {
-            refused(number);
+        Err(refusal) => {
+            refused(u8::from(refusal));
         }
     }
     say(b"\n");

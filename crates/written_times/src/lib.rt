@@ -158,6 +158,7 @@ fn write_more(
 {
     let mut now = c;
     let mut left = more;
+    // No `for` is plainer: a step takes as many of the rows that are left as join.
     while 0 < left {
         let part = write_part(
             now, kind, e, items, ends, flags, counts, keys, lens, present, value, item, key, len,

@@ -78,9 +78,9 @@ pub record Few (n some : ℕ) : Type 0 where
   pub few : some ≤ 192
   pub any : 0 < n → 0 < some
 
-pub some-few : {n some : ℕ} → some ≡ min n 192 → Few n some
+pub some-few : {n some : ℕ} → some ≡ min 192 n → Few n some
 some-few {n} {some} e = record {
-  within = rw e (min-le_left n 192);
-  few = rw e (min-le_right n 192);
-  any = λ h. rw e (le-min h (omega arith));
+  within = rw e (min-le_right 192 n);
+  few = rw e (min-le_left 192 n);
+  any = λ h. rw e (le-min (omega arith) h);
 }

@@ -24,7 +24,7 @@ returns-then-rows_disagree c =
     let areas : Lent = let a = c.args in lent a.items.now a.ends.now a.flags.now a.counts.now a.keys.now a.lens.now in
     let row : Row = let a = c.args in row_of a.kind a.present a.value a.item.now in
     let a = c.args in
-    refused.not-agreed a.kind (rows_by a.nullable) a.c (areas) a.n (row) (sym c.rows_disagree.ensures ∙ c.if-rows_disagree.true) c.refused.ensures
+    refused.not-agreed a.kind (rows_by a.nullable) a.c (areas) a.n (row) (sym c.rows_disagree.ensures ∙ c.if-rows_disagree.true) refl
 
 pub returns-then-not-row_fits : goal.returns-then-not-row_fits
 unfolding room_of
@@ -37,7 +37,7 @@ returns-then-not-row_fits c =
     let a = c.args in
     refused.not-fit a.kind (rows_by a.nullable) a.c (areas) a.n (row) (agrees)
     (step-rows a.kind a.c (held_in (areas)) a.keys.now (row) a.nullable)
-    (sym (c.row_fits.ensures ∙ ap (fits a.kind) (passed)) ∙ c.if-not-row_fits.true) c.refused-then-not-row_fits.ensures
+    (sym (c.row_fits.ensures ∙ ap (fits a.kind) (passed)) ∙ c.if-not-row_fits.true) refl
 
 pub item_len-len-requires : goal.item_len-len-requires
 item_len-len-requires c = sym c.row_fits.ensures ∙ c.if-not-row_fits.false

@@ -10,8 +10,7 @@ use Rattle.plain.specs.Rows.{Row, row_of, fits}
 use Rattle.plain.specs.Plain.{item_of}
 use Rattle.format.specs.declared.Encoding.TheVariants.{Dictionary}
 use Rattle.needs.specs.Needs.{disagree}
-use Rattle.step.specs.declared.Step.TheVariants.{Row as Adds}
-use Rattle.step.specs.Steps.{key_step, step_of}
+use Rattle.step.specs.Steps.{adds, key_step, step_of}
 use Rattle.step.proofs.Steps.{step-keys}
 use Rattle.append.specs.Appending.{Lent, lent, room_of, held_in}
 use Rattle.append.specs.Asking.{Found}
@@ -27,11 +26,11 @@ returns-then-keys_disagree c =
     let areas : Lent = let a = c.args in lent a.items.now a.ends.now a.flags.now a.counts.now a.keys.now a.lens.now in
     let row : Row = let a = c.args in row_of a.kind a.present a.value a.item.now in
     let a = c.args in
-    refused.not-agreed a.kind Dictionary a.c (areas) a.n (row) (sym c.keys_disagree.ensures ∙ c.if-keys_disagree.true) c.refused.ensures
+    refused.not-agreed a.kind Dictionary a.c (areas) a.n (row) (sym c.keys_disagree.ensures ∙ c.if-keys_disagree.true) refl
 
-pub key_step-found-requires : goal.key_step-found-requires
+pub key_step-requires : goal.key_step-requires
 unfolding room_of
-key_step-found-requires c =
+key_step-requires c =
     let areas : Lent = let a = c.args in lent a.items.now a.ends.now a.flags.now a.counts.now a.keys.now a.lens.now in
     let agrees : disagree c.args.kind Dictionary c.args.c (room_of (areas)) ≡ false = sym c.keys_disagree.ensures ∙ c.if-keys_disagree.false in
     let a = c.args in
@@ -45,11 +44,11 @@ returns-in_default c =
     let agrees : disagree c.args.kind Dictionary c.args.c (room_of (areas)) ≡ false = sym c.keys_disagree.ensures ∙ c.if-keys_disagree.false in
     let passed : let a = c.args in row_of a.kind a.present (to_z w64 (of_z w64 a.value)) a.item.now ≡ row = let a = c.args in
     ap (λ (v : ℤ). row_of a.kind a.present v a.item.now) (to_z-of_z c.ranges.value) in
-    let stepped : c.key_step-found.result ≡ step_of c.args.kind Dictionary c.args.c (held_in (areas)) c.args.keys.now (row) = let a = c.args in
+    let stepped : c.key_step.result ≡ step_of c.args.kind Dictionary c.args.c (held_in (areas)) c.args.keys.now (row) = let a = c.args in
     step-keys a.kind a.c (held_in (areas)) a.keys.now (row)
-    (c.key_step-found.ensures ∙ ap (key_step a.kind a.c (held_in (areas)) a.keys.now) (passed)) in
+    (c.key_step.ensures ∙ ap (key_step a.kind a.c (held_in (areas)) a.keys.now) (passed)) in
     let a = c.args in
-    refused.field-wrong a.kind Dictionary a.c (areas) a.n (row) (agrees) (sym c.in_default.is ∙ stepped) c.refused-in_default.ensures
+    refused.field-wrong a.kind Dictionary a.c (areas) a.n (row) (agrees) (sym c.in_default.is ∙ stepped) refl
 
 pub returns-then-not-row_fits : goal.returns-then-not-row_fits
 unfolding room_of
@@ -59,13 +58,13 @@ returns-then-not-row_fits c =
     let agrees : disagree c.args.kind Dictionary c.args.c (room_of (areas)) ≡ false = sym c.keys_disagree.ensures ∙ c.if-keys_disagree.false in
     let passed : let a = c.args in row_of a.kind a.present (to_z w64 (of_z w64 a.value)) a.item.now ≡ row = let a = c.args in
     ap (λ (v : ℤ). row_of a.kind a.present v a.item.now) (to_z-of_z c.ranges.value) in
-    let stepped : c.key_step-found.result ≡ step_of c.args.kind Dictionary c.args.c (held_in (areas)) c.args.keys.now (row) = let a = c.args in
+    let stepped : c.key_step.result ≡ step_of c.args.kind Dictionary c.args.c (held_in (areas)) c.args.keys.now (row) = let a = c.args in
     step-keys a.kind a.c (held_in (areas)) a.keys.now (row)
-    (c.key_step-found.ensures ∙ ap (key_step a.kind a.c (held_in (areas)) a.keys.now) (passed)) in
-    let step : Adds c.in-Row.stored c.in-Row.joins c.in-Row.key ≡ step_of c.args.kind Dictionary c.args.c (held_in (areas)) c.args.keys.now (row) = sym c.in-Row.is ∙ stepped in
+    (c.key_step.ensures ∙ ap (key_step a.kind a.c (held_in (areas)) a.keys.now) (passed)) in
+    let step : adds c.in-Some.found.stored c.in-Some.found.joins c.in-Some.found.key ≡ step_of c.args.kind Dictionary c.args.c (held_in (areas)) c.args.keys.now (row) = sym c.in-Some.is ∙ stepped in
     let a = c.args in
     refused.not-fit a.kind Dictionary a.c (areas) a.n (row) (agrees) (step)
-    (sym (c.row_fits.ensures ∙ ap (fits a.kind) (passed)) ∙ c.if-not-row_fits.true) c.refused-then-not-row_fits.ensures
+    (sym (c.row_fits.ensures ∙ ap (fits a.kind) (passed)) ∙ c.if-not-row_fits.true) refl
 
 pub item_len-len-requires : goal.item_len-len-requires
 item_len-len-requires c = sym c.row_fits.ensures ∙ c.if-not-row_fits.false
@@ -78,12 +77,12 @@ key_found-requires c =
     let agrees : disagree c.args.kind Dictionary c.args.c (room_of (areas)) ≡ false = sym c.keys_disagree.ensures ∙ c.if-keys_disagree.false in
     let passed : let a = c.args in row_of a.kind a.present (to_z w64 (of_z w64 a.value)) a.item.now ≡ row = let a = c.args in
     ap (λ (v : ℤ). row_of a.kind a.present v a.item.now) (to_z-of_z c.ranges.value) in
-    let stepped : c.key_step-found.result ≡ step_of c.args.kind Dictionary c.args.c (held_in (areas)) c.args.keys.now (row) = let a = c.args in
+    let stepped : c.key_step.result ≡ step_of c.args.kind Dictionary c.args.c (held_in (areas)) c.args.keys.now (row) = let a = c.args in
     step-keys a.kind a.c (held_in (areas)) a.keys.now (row)
-    (c.key_step-found.ensures ∙ ap (key_step a.kind a.c (held_in (areas)) a.keys.now) (passed)) in
-    let step : Adds c.in-Row.stored c.in-Row.joins c.in-Row.key ≡ step_of c.args.kind Dictionary c.args.c (held_in (areas)) c.args.keys.now (row) = sym c.in-Row.is ∙ stepped in
+    (c.key_step.ensures ∙ ap (key_step a.kind a.c (held_in (areas)) a.keys.now) (passed)) in
+    let step : adds c.in-Some.found.stored c.in-Some.found.joins c.in-Some.found.key ≡ step_of c.args.kind Dictionary c.args.c (held_in (areas)) c.args.keys.now (row) = sym c.in-Some.is ∙ stepped in
     let fit : fits c.args.kind (row) ≡ true = sym (c.row_fits.ensures ∙ ap (fits c.args.kind) (passed)) ∙ c.if-not-row_fits.false in
-    let found : Found c.args.kind Dictionary c.args.c (areas) (row) c.in-Row.stored c.in-Row.joins c.in-Row.key = record { agrees = agrees; step = step; fit = fit } in
+    let found : Found c.args.kind Dictionary c.args.c (areas) (row) c.in-Some.found.stored c.in-Some.found.joins c.in-Some.found.key = record { agrees = agrees; step = step; fit = fit } in
     let long : c.item_len-len.result ≡ length (item_of c.args.kind (row)) = c.item_len-len.ensures ∙ ap (λ (x : Row). length (item_of c.args.kind x)) (passed) in
     let small = laws.key-small c.args.kind Dictionary c.args.c (areas) (row) (found) in
     (ways.found_passed refl (passed) (to_z-of_z small) (found), ways.long-passed c.args.kind (passed) (long))

@@ -1,37 +1,45 @@
 -- `append_runs::one_run` meets its contract: the row is counted in, and then written. Assumes nothing.
-use mathlib.Core.Path.{◌≡◌, sym, ap}
+use mathlib.Core.Path.{◌≡◌, refl, sym, ap, ◌∙◌}
 use mathlib.Core.Bool.{not}
 use lib.IntN.{ℤ, pos}
 use mir.Syntax.{w64}
 use mir.Val.{of_z, to_z}
 use mir.Facts.{to_z-of_z}
+use Rattle.std.specs.Prelude.{Result}
+use Rattle.limits.specs.declared.refusal.Refusal.{Refusal}
+use Rattle.limits.specs.Refusals.{refusal_number}
+use Rattle.needs.specs.declared.Counted.{Counted}
+use Rattle.step.specs.Counting.{next_of, answered}
+use Rattle.limits.proofs.Refused.{refusal-some}
+use Rattle.step.proofs.Answered.{passed_on}
 use Rattle.plain.specs.Rows.{Row, row_of}
 use Rattle.needs.specs.Tests.{runs_by}
 use Rattle.needs.proofs.Encodings.{runs-stored, runs-flagged, runs-coded, runs-keyed}
-use Rattle.append.specs.Appending.{Lent, lent, room_of}
+use Rattle.append.specs.Appending.{Lent, lent, room_of, added_to}
 use Rattle.append.proofs.Passed as laws
 use Rattle.append.proofs.Passed.{Taken}
 use Rattle.append_runs.proofs.one_run.Goals as goal
 
 -- ---- the needs
-pub run_counted-next-requires : goal.run_counted-next-requires
-run_counted-next-requires c =
+pub run_counted-requires : goal.run_counted-requires
+run_counted-requires c =
     let areas : Lent = let a = c.args in lent a.items.now a.ends.now a.flags.now a.counts.now a.keys.now a.lens.now in
     let row : Row = let a = c.args in row_of a.kind a.present a.value a.item.now in
     let a = c.args in
     let z = laws.count-asks a.kind (runs_by a.nullable) a.c (areas) (row) c.requires.0 in
     (z.0, z.1, z.2 (runs-keyed a.nullable))
 
-pub returns-then-next-ne0 : goal.returns-then-next-ne0
+pub returns-in_err-next : goal.returns-in_err-next
 unfolding room_of
-returns-then-next-ne0 c =
+returns-in_err-next c =
     let areas : Lent = let a = c.args in lent a.items.now a.ends.now a.flags.now a.counts.now a.keys.now a.lens.now in
     let row : Row = let a = c.args in row_of a.kind a.present a.value a.item.now in
     let counted : let a = c.args in
-    laws.CountedIn a.kind (runs_by a.nullable) a.c (areas) (row) (not a.joins) a.joins c.run_counted-next.result = let a = c.args in
-    laws.counted-row a.kind (runs_by a.nullable) a.c (room_of (areas)) a.present a.value a.item.now (not a.joins) a.joins c.requires.1 c.run_counted-next.ensures in
+    laws.CountedIn a.kind (runs_by a.nullable) a.c (areas) (row) (not a.joins) a.joins (next_of (refusal_number c.in_err-next.field-0.0) a.c) = let a = c.args in
+    laws.counted-row a.kind (runs_by a.nullable) a.c (room_of (areas)) a.present a.value a.item.now (not a.joins) a.joins c.requires.1 c.in_err-next.ensures in
     let a = c.args in
-    laws.count-refused a.kind (runs_by a.nullable) a.c (areas) (row) c.requires.0 (counted) c.if-next-ne0.true
+    ap (λ (x : Result Counted Refusal). added_to (answered a.c x) (areas)) (passed_on _ c.from_residual.ensures.1)
+    ∙ laws.count-refused a.kind (runs_by a.nullable) a.c (areas) (row) c.requires.0 (counted) (refusal-some _)
 
 pub write_stored-requires : goal.write_stored-requires
 unfolding room_of
@@ -41,11 +49,11 @@ write_stored-requires c =
     ap (λ (v : ℤ). row_of a.kind a.present v a.item.now) (to_z-of_z c.ranges.value) in
     let areas : Lent = let a = c.args in lent a.items.now a.ends.now a.flags.now a.counts.now a.keys.now a.lens.now in
     let counted : let a = c.args in
-    laws.CountedIn a.kind (runs_by a.nullable) a.c (areas) (row) (not a.joins) a.joins c.run_counted-next.result = let a = c.args in
-    laws.counted-row a.kind (runs_by a.nullable) a.c (room_of (areas)) a.present a.value a.item.now (not a.joins) a.joins c.requires.1 c.run_counted-next.ensures in
+    laws.CountedIn a.kind (runs_by a.nullable) a.c (areas) (row) (not a.joins) a.joins (next_of 0 c.in_ok-next.next) = let a = c.args in
+    laws.counted-row a.kind (runs_by a.nullable) a.c (room_of (areas)) a.present a.value a.item.now (not a.joins) a.joins c.requires.1 c.in_ok-next.ensures in
     let taken : let a = c.args in
-    Taken a.kind (runs_by a.nullable) a.c (areas) (row) (not a.joins) a.joins (pos 0) a.len c.run_counted-next.result =
-    record { found = c.requires.0; long = c.requires.1; counted = counted; done = c.if-next-ne0.false } in
+    Taken a.kind (runs_by a.nullable) a.c (areas) (row) (not a.joins) a.joins (pos 0) a.len (next_of 0 c.in_ok-next.next) =
+    record { found = c.requires.0; long = c.requires.1; counted = counted; done = refl } in
     let a = c.args in
     λ t. laws.stores-passed a.kind a.nullable a.c.runs a.c.bytes (passed)
     (laws.item-asks a.kind (runs_by a.nullable) a.c (areas) (row) (taken) t (runs-stored a.nullable a.c) (runs-flagged a.nullable))
@@ -56,11 +64,11 @@ write_run-requires c =
     let areas : Lent = let a = c.args in lent a.items.now a.ends.now a.flags.now a.counts.now a.keys.now a.lens.now in
     let row : Row = let a = c.args in row_of a.kind a.present a.value a.item.now in
     let counted : let a = c.args in
-    laws.CountedIn a.kind (runs_by a.nullable) a.c (areas) (row) (not a.joins) a.joins c.run_counted-next.result = let a = c.args in
-    laws.counted-row a.kind (runs_by a.nullable) a.c (room_of (areas)) a.present a.value a.item.now (not a.joins) a.joins c.requires.1 c.run_counted-next.ensures in
+    laws.CountedIn a.kind (runs_by a.nullable) a.c (areas) (row) (not a.joins) a.joins (next_of 0 c.in_ok-next.next) = let a = c.args in
+    laws.counted-row a.kind (runs_by a.nullable) a.c (room_of (areas)) a.present a.value a.item.now (not a.joins) a.joins c.requires.1 c.in_ok-next.ensures in
     let taken : let a = c.args in
-    Taken a.kind (runs_by a.nullable) a.c (areas) (row) (not a.joins) a.joins (pos 0) a.len c.run_counted-next.result =
-    record { found = c.requires.0; long = c.requires.1; counted = counted; done = c.if-next-ne0.false } in
+    Taken a.kind (runs_by a.nullable) a.c (areas) (row) (not a.joins) a.joins (pos 0) a.len (next_of 0 c.in_ok-next.next) =
+    record { found = c.requires.0; long = c.requires.1; counted = counted; done = refl } in
     let a = c.args in
     laws.run-asks a.kind (runs_by a.nullable) a.c (areas) (row) (taken) (runs-coded a.nullable) (sym (runs-keyed a.nullable))
 
@@ -70,11 +78,11 @@ returns c =
     let areas : Lent = let a = c.args in lent a.items.now a.ends.now a.flags.now a.counts.now a.keys.now a.lens.now in
     let row : Row = let a = c.args in row_of a.kind a.present a.value a.item.now in
     let counted : let a = c.args in
-    laws.CountedIn a.kind (runs_by a.nullable) a.c (areas) (row) (not a.joins) a.joins c.run_counted-next.result = let a = c.args in
-    laws.counted-row a.kind (runs_by a.nullable) a.c (room_of (areas)) a.present a.value a.item.now (not a.joins) a.joins c.requires.1 c.run_counted-next.ensures in
+    laws.CountedIn a.kind (runs_by a.nullable) a.c (areas) (row) (not a.joins) a.joins (next_of 0 c.in_ok-next.next) = let a = c.args in
+    laws.counted-row a.kind (runs_by a.nullable) a.c (room_of (areas)) a.present a.value a.item.now (not a.joins) a.joins c.requires.1 c.in_ok-next.ensures in
     let taken : let a = c.args in
-    Taken a.kind (runs_by a.nullable) a.c (areas) (row) (not a.joins) a.joins (pos 0) a.len c.run_counted-next.result =
-    record { found = c.requires.0; long = c.requires.1; counted = counted; done = c.if-next-ne0.false } in
+    Taken a.kind (runs_by a.nullable) a.c (areas) (row) (not a.joins) a.joins (pos 0) a.len (next_of 0 c.in_ok-next.next) =
+    record { found = c.requires.0; long = c.requires.1; counted = counted; done = refl } in
     let passed : let a = c.args in row_of a.kind a.present (to_z w64 (of_z w64 a.value)) a.item.now ≡ row = let a = c.args in
     ap (λ (v : ℤ). row_of a.kind a.present v a.item.now) (to_z-of_z c.ranges.value) in
     let a = c.args in

@@ -1,9 +1,7 @@
--- `area::copies` meets its contract. The loop's invariant is `Repeating`, its measure the times that are left. Assumes nothing.
+-- `area::copies` meets its contract. The loop's invariant is `Repeating`. Assumes nothing.
+use Prim.Native.Nat.{◌-◌}
 use Rattle.area.proofs.Loops as laws
 use Rattle.area.proofs.copies.Given as goal
 
-abbrev pub invariant-loop-left : goal.invariant-loop-left
-invariant-loop-left l = laws.Repeating l.src l.from l.n l.initial.dst l.at l.times l.dst l.left l.to
-
-abbrev pub decreases-loop-left : goal.decreases-loop-left
-decreases-loop-left l = l.left
+abbrev pub invariant-loop-i : goal.invariant-loop-i
+invariant-loop-i l = laws.Repeating l.src l.from l.n l.initial.dst l.at l.times l.dst (l.times - l._i) l.to

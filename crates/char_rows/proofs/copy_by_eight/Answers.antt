@@ -1,8 +1,6 @@
 -- `copy_by_eight` meets its contract: the law of the loop that copies, by eight bytes a step, and then the rest. Assumes nothing.
-use Prim.Native.Nat.{◌-◌}
 use mathlib.Core.Path.{◌∙◌}
-use Rattle.area.proofs.Loops.{copying-start}
-use Rattle.char_rows.proofs.Words.{copying-word}
+use Rattle.char_rows.proofs.Words.{copying-start, copying-word}
 use Rattle.char_rows.proofs.copy_by_eight.Goals as goal
 
 pub loop-i-init : goal.loop-i-init

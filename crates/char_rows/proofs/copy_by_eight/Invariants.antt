@@ -1,6 +1,6 @@
 -- `copy_by_eight` meets its contract: the law of the loop that copies, by eight bytes a step, and then the rest. Assumes nothing.
 use Prim.Native.Nat.{◌-◌}
-use Rattle.area.proofs.Loops.{Copying}
+use Rattle.char_rows.proofs.Words.{Copying}
 use Rattle.char_rows.proofs.copy_by_eight.Given as goal
 
 abbrev pub invariant-loop-i : goal.invariant-loop-i

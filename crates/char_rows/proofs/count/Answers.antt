@@ -1,5 +1,4 @@
 -- `count` meets its contract: what is counted so far and what is left make up the whole. Assumes nothing.
-use Prim.Native.Nat.{◌-◌}
 use native.Mathlib.Omega.{arith}
 use Rattle.char_rows.proofs.Letters.{counting-start, counting-step, counting-end}
 use Rattle.char_rows.proofs.count.Goals as goal

@@ -1,5 +1,5 @@
 -- `put_bytes` meets its contract. The loop's invariant: what is still to be written covers all that was copied too much. Assumes nothing.
-use Prim.Native.Nat.{◌+◌, ◌-◌, ◌*◌, ◌≤◌}
+use Prim.Native.Nat.{◌+◌, ◌*◌, ◌≤◌}
 use lib.ListN.{length}
 use native.Mathlib.Omega.{arith}
 use Rattle.plain.proofs.Items.{item-within}

@@ -1,5 +1,4 @@
 -- `put_ends` meets its contract. The loop's invariant: what is still to be stored, from the total so far on. Assumes nothing.
-use Prim.Native.Nat.{◌-◌}
 use native.Mathlib.Omega.{arith}
 use Rattle.plain.proofs.Items.{item-within}
 use Rattle.char_rows.proofs.EndsStored.{stored-start, stored-step, stored-end}

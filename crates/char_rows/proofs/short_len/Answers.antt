@@ -1,5 +1,4 @@
 -- `short_len` meets its contract. The loop's invariant: the nearest NUL so far. Assumes nothing.
-use Prim.Native.Nat.{◌-◌}
 use mathlib.Core.Path.{refl}
 use native.Mathlib.Omega.{arith}
 use Rattle.char_rows.proofs.FirstNul.{nearest-start, nearest-step, nearest-end}

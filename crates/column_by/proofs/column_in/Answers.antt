@@ -1,23 +1,27 @@
 -- `column_in` meets its contract: the digits taken are those of the text so far. Assumes nothing.
-use Prim.Native.Nat.{◌-◌}
 use native.Mathlib.Omega.{arith}
-use mathlib.Core.Path.{sym, ◌∙◌}
+use mathlib.Core.Path.{◌≡◌, sym, ◌∙◌}
+use Rattle.std.proofs.lemmas.Bool.Decides.{nat_tests}
+use Rattle.std.specs.Prelude.{Some, None}
 use Rattle.column_by.proofs.Digits as laws
 use Rattle.column_by.proofs.column_in.Goals as goal
 
-pub returns-then-text-eq0 : goal.returns-then-text-eq0
-returns-then-text-eq0 c = laws.none-to-take _ (omega arith)
+pub returns-then-is_empty : goal.returns-then-is_empty
+returns-then-is_empty c = laws.none-to-take _ (grind (arith, nat_tests))
 
-pub loop-i-init : goal.loop-i-init
-loop-i-init c = laws.taking-start _ c.if-text-eq0.false
+pub loop-b-init : goal.loop-b-init
+loop-b-init c = laws.taking-start _ (λ z. grind (arith, nat_tests))
 
-pub returns-in_default : goal.returns-in_default
-returns-in_default c =
-    laws.taking-refused c.loop-i.invariant c.loop-i-test.true (sym c.with_digit-next.ensures ∙ c.in_default.is)
+pub returns-in_err-n : goal.returns-in_err-n
+returns-in_err-n c =
+    let none : c.with_digit.result ≡ None = cc in
+    let back : c.from_residual.result ≡ None = cc in
+    back ∙ laws.taking-refused c.loop-b.invariant c.loop-b-test.true (sym c.with_digit.ensures ∙ none)
 
-pub loop-i-preserved : goal.loop-i-preserved
-loop-i-preserved c =
-    laws.taking_step c.loop-i.invariant c.loop-i-test.true (sym c.with_digit-next.ensures ∙ c.in-Column.is)
+pub loop-b-preserved : goal.loop-b-preserved
+loop-b-preserved c =
+    let some : c.with_digit.result ≡ Some c.in_ok-n.n = cc in
+    laws.taking_step c.loop-b.invariant c.loop-b-test.true (sym c.with_digit.ensures ∙ some)
 
 pub returns : goal.returns
-returns c = laws.taking-end c.loop-i.invariant (omega arith)
+returns c = laws.taking-end c.loop-b.invariant (omega arith)

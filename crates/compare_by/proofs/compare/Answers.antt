@@ -1,32 +1,37 @@
 -- `compare` meets its contract: each return by the law of the files' numbers that led there. Assumes nothing.
-use native.Mathlib.Omega.{arith}
+use mathlib.Core.Path.{sym, ap, ◌∙◌}
+use Rattle.limits.specs.Refusals.{number_in}
+use Rattle.limits.proofs.Refused.{refusal-some}
 use Rattle.compare_by.proofs.Files as laws
 use Rattle.compare_by.proofs.compare.Goals as goal
 
-pub returns-then-one-ne0 : goal.returns-then-one-ne0
-returns-then-one-ne0 c =
+pub returns-in-Err : goal.returns-in-Err
+returns-in-Err c =
     let a = c.args in
-    let all = laws.first-refused a.first.now a.second.now a.firsts.now a.lasts.now c.number_of-one.ensures (λ z. omega (arith, z)) c.none.ensures in
+    let all = laws.first-refused a.first.now a.second.now a.firsts.now a.lasts.now
+    (sym (ap number_in c.in-Err.is) ∙ c.tested.ensures) (refusal-some c.in-Err.refusal) c.none.ensures in
     record { value = all.0; firsts_after = all.1.0; lasts_after = all.1.1 }
 
-pub returns-then-other-ne0 : goal.returns-then-other-ne0
-returns-then-other-ne0 c =
+pub returns-in-Err-tested : goal.returns-in-Err-tested
+returns-in-Err-tested c =
     let a = c.args in
     let all = laws.second-refused
     a.first.now
     a.second.now
     a.firsts.now
     a.lasts.now
-    (omega (arith, c.number_of-one.ensures))
-    c.number_of-other.ensures
-    (λ z. omega (arith, z))
-    c.none-then-other-ne0.ensures in
+    (sym c.tested.ensures ∙ ap number_in c.in_default.is)
+    (sym (ap number_in c.in-Err-tested.is) ∙ c.tested-2.ensures)
+    (refusal-some c.in-Err-tested.refusal)
+    c.none-in-Err-tested.ensures in
     record { value = all.0; firsts_after = all.1.0; lasts_after = all.1.1 }
 
 pub compare_blocks-requires : goal.compare_blocks-requires
 compare_blocks-requires c =
-    let a = c.args in
-    (laws.has-descriptor a.first.now (omega (arith, c.number_of-one.ensures)), laws.has-descriptor a.second.now (omega (arith, c.number_of-other.ensures)))
+    let a = c.args in (
+      laws.has-descriptor a.first.now (sym c.tested.ensures ∙ ap number_in c.in_default.is),
+      laws.has-descriptor a.second.now (sym c.tested-2.ensures ∙ ap number_in c.in_default-tested.is),
+    )
 
 pub returns : goal.returns
 returns c =
@@ -36,7 +41,7 @@ returns c =
     a.second.now
     a.firsts.now
     a.lasts.now
-    (omega (arith, c.number_of-one.ensures))
-    (omega (arith, c.number_of-other.ensures))
+    (sym c.tested.ensures ∙ ap number_in c.in_default.is)
+    (sym c.tested-2.ensures ∙ ap number_in c.in_default-tested.is)
     (c.compare_blocks.ensures.value, (c.compare_blocks.ensures.firsts_after, c.compare_blocks.ensures.lasts_after)) in
     record { value = all.0; firsts_after = all.1.0; lasts_after = all.1.1 }

@@ -1,4 +1,6 @@
 -- `compare` meets its contract: blocks that are unlike, a first block that is refused, and one that is sound. Assumes nothing.
+use mathlib.Core.Path.{ap, sym, ◌∙◌}
+use Rattle.limits.specs.Refusals.{by_number}
 use native.Mathlib.Omega.{arith}
 use Rattle.comparing.proofs.TakenSides as sides
 use Rattle.comparing.proofs.Answers as laws
@@ -16,10 +18,10 @@ returns-then-a-b-2 c =
 
 pub compare_to-requires : goal.compare_to-requires
 compare_to-requires c =
-    (sides.taken-whole _ _ c.take_side-side.ensures c.in-Whole.is, omega arith, omega arith)
+    (sides.taken-whole _ _ c.take_side.ensures (ap by_number c.in-Ok.is), omega arith, omega arith)
 
-pub returns-in-Refused : goal.returns-in-Refused
-returns-in-Refused c =
-    let t = sides.taken_refused _ _ c.take_side-side.ensures c.in-Refused.is in
-    let all = laws.first-refused _ _ _ _ _ _ (omega arith) (omega arith) t.0 t.1 c.refused-in-Refused.ensures in
+pub returns-in-Err : goal.returns-in-Err
+returns-in-Err c =
+    let t = sides.taken_refused _ _ c.take_side.ensures (ap by_number c.in-Err.is) in
+    let all = laws.first-refused _ _ _ _ _ _ (omega arith) (omega arith) (t.0 ∙ sym c.from.ensures) (omega (arith, t.1, c.from.ensures)) c.refused-in-Err.ensures in
     record { value = all.0; firsts_after = all.1.0; lasts_after = all.1.1 }

@@ -4,4 +4,4 @@ use Rattle.descriptor.specs.Descriptor.{fields_of}
 use Rattle.descriptor.proofs.unpack.Goals as goal
 
 pub returns : goal.returns
-returns c = ap fields_of c.high8-n.ensures
+returns c = ap fields_of c.high-n.ensures.0

@@ -1,5 +1,4 @@
--- `dict::known` meets its contract. The loop's invariant is `Looking`, its measure the keys that are left. Assumes nothing.
-use Prim.Native.Nat.{◌-◌}
+-- `dict::known` meets its contract. The loop's invariant is `Looking`. Assumes nothing.
 use native.Mathlib.Omega.{arith}
 use Rattle.dict.proofs.Slots as laws
 use Rattle.dict.proofs.known.Goals as goal

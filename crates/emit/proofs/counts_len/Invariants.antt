@@ -1,10 +1,6 @@
--- `counts_len` meets its contract. The loop's invariant is `Measuring`, its measure the counts that are left. Assumes nothing.
-use Prim.Native.Nat.{◌-◌}
+-- `counts_len` meets its contract. The loop's invariant is `Measuring`. Assumes nothing.
 use Rattle.emit.proofs.SlotLoops as laws
 use Rattle.emit.proofs.counts_len.Given as goal
 
 abbrev pub invariant-loop-i : goal.invariant-loop-i
 invariant-loop-i l = laws.Measuring l.counts l.n l.len l.i
-
-abbrev pub decreases-loop-i : goal.decreases-loop-i
-decreases-loop-i l = l.n - l.i

@@ -18,5 +18,5 @@ returns c =
     let key = to_z-of_z c.ranges.key in
     let wide : SFits w64 c.args.key = record { sfits = omega arith } in
     ap (λ (m : ℕ). m % 4294967296)
-    (c.bits_of.ensures ∙ ap (of_z w64) (ap (λ (z : ℤ). to_z w64 (of_z w64 z)) key ∙ to_z-of_z wide))
+    (c.cast_unsigned.ensures ∙ ap (of_z w64) (ap (λ (z : ℤ). to_z w64 (of_z w64 z)) key ∙ to_z-of_z wide))
     ∙ lowest w32 (lit≤ tt) c.args.key c.ranges.key

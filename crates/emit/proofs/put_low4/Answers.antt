@@ -9,4 +9,4 @@ use Rattle.emit.proofs.put_low4.Goals as goal
 pub returns : goal.returns
 returns c =
     let a = c.args in
-    record { value = refl; out_after = c.put.ensures ∙ ap (λ (item : List ℕ). sets a.out.now a.at (take 4 item)) c.low_first4.ensures }
+    record { value = refl; out_after = c.put.ensures ∙ ap (λ (item : List ℕ). sets a.out.now a.at (take 4 item)) c.low_first.ensures }

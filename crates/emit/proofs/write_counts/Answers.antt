@@ -1,4 +1,4 @@
--- `write_counts` meets its contract. The loop's invariant is `Laying`, its measure the counts that are left. Assumes nothing.
+-- `write_counts` meets its contract. The loop's invariant is `Laying`. Assumes nothing.
 use native.Mathlib.Omega.{arith}
 use Rattle.varint.specs.Varint.{spelling}
 use Rattle.emit.specs.Parts.{held_counts}

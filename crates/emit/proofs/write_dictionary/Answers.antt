@@ -67,5 +67,5 @@ returns c =
     (c.write_key_block-behind.ensures.value, c.write_key_block-behind.ensures.out_after)
     (c.put.ensures
     ∙ ap (λ (item : List ℕ). sets c.write_key_block-behind.new.out 0 (take 8 item)) (c.high_first.ensures ∙ ap (big 8) m))
-    (c.put-2.ensures ∙ ap (λ (item : List ℕ). sets c.put.new.dst 8 (take 4 item)) c.high_first4.ensures)
+    (c.put-2.ensures ∙ ap (λ (item : List ℕ). sets c.put.new.dst 8 (take 4 item)) c.high_first-2.ensures)
     (c.write_plain.ensures.value, c.write_plain.ensures.out_after)

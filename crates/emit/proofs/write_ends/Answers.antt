@@ -1,4 +1,4 @@
--- `write_ends` meets its contract. The loop's invariant is `Laying`, its measure the ends that are left. Assumes nothing.
+-- `write_ends` meets its contract. The loop's invariant is `Laying`. Assumes nothing.
 use native.Mathlib.Omega.{arith}
 use Rattle.encode.specs.Bytes.{little}
 use Rattle.emit.proofs.SlotLoops as laws

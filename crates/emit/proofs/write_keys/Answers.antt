@@ -1,4 +1,4 @@
--- `write_keys` meets its contract. The loop's invariant is `Laying`, its measure the keys that are left. Assumes nothing.
+-- `write_keys` meets its contract. The loop's invariant is `Laying`. Assumes nothing.
 use native.Mathlib.Omega.{arith}
 use Prim.Native.Nat.{ℕ}
 use mathlib.Core.Path.{ap, ◌∙◌}

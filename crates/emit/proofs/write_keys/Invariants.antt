@@ -1,5 +1,5 @@
--- `write_keys` meets its contract. The loop's invariant is `Laying`, its measure the keys that are left. Assumes nothing.
-use Prim.Native.Nat.{ℕ, ◌-◌}
+-- `write_keys` meets its contract. The loop's invariant is `Laying`. Assumes nothing.
+use Prim.Native.Nat.{ℕ}
 use mathlib.Core.List.{List}
 use lib.IntN.{ℤ}
 use mir.Syntax.{w32}
@@ -13,6 +13,3 @@ bytes key = little 4 (of_z w32 key)
 
 abbrev pub invariant-loop-i : goal.invariant-loop-i
 invariant-loop-i l = laws.Laying ℤ bytes l.keys l.n l.initial.out l.at l.out l.to l.i
-
-abbrev pub decreases-loop-i : goal.decreases-loop-i
-decreases-loop-i l = l.n - l.i

@@ -19,8 +19,8 @@ overflow_sub-w c =
     let short : c.char_of-text.result.len ≤ c.args.w = let a = c.args in char-short a.w a.n a.items.now a.slot c.char_of-text.result c.char_of-text.ensures in
     short
 
-pub fill_bytes-requires : goal.fill_bytes-requires
-fill_bytes-requires c =
+pub fill-requires : goal.fill-requires
+fill-requires c =
     let short : c.char_of-text.result.len ≤ c.args.w = let a = c.args in char-short a.w a.n a.items.now a.slot c.char_of-text.result c.char_of-text.ensures in
     let s = short in
     omega (arith, c.requires.4)
@@ -28,4 +28,4 @@ fill_bytes-requires c =
 pub returns : goal.returns
 returns c =
     let a = c.args in
-    char-put a.w a.n a.items.now a.slot c.char_of-text.result c.char_of-text.ensures a.out.now a.at c.copy.ensures c.fill_bytes.ensures
+    char-put a.w a.n a.items.now a.slot c.char_of-text.result c.char_of-text.ensures a.out.now a.at c.copy.ensures c.fill.ensures

@@ -1,5 +1,4 @@
 -- `fixed_rows::put_flags` meets its contract: the law of the loops over runs that write an element a row, at the flags. Assumes nothing.
-use Prim.Native.Nat.{◌-◌}
 use mathlib.Core.Path.{refl}
 use native.Mathlib.Omega.{arith}
 use Rattle.source.proofs.AtPlace.{flag-row}

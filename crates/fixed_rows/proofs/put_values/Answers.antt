@@ -1,5 +1,4 @@
 -- `fixed_rows::put_values` meets its contract: the law of the loops over runs that write an element a row, at the values. Assumes nothing.
-use Prim.Native.Nat.{◌-◌}
 use mathlib.Core.Path.{refl}
 use borrow.Author.Rules.{rules}
 use native.Mathlib.Omega.{arith}
@@ -21,8 +20,8 @@ pub value_of-value-requires : goal.value_of-value-requires
 value_of-value-requires c =
     (c.shown_run-run.ensures.2, c.requires.0.few, least-found c.requires.2 c.args.s.items c.args.items.now c.requires.0.whole)
 
-pub fill_values-requires : goal.fill_values-requires
-fill_values-requires c =
+pub fill-requires : goal.fill-requires
+fill-requires c =
     laws.filled-room c.loop-left.invariant (omega arith) refl c.shown_run-run.ensures.0 c.requires.3.rows
 
 pub overflow_add-to : goal.overflow_add-to
@@ -41,7 +40,7 @@ loop-left-smaller c =
 pub loop-left-preserved : goal.loop-left-preserved
 loop-left-preserved c =
     values-on _ _ _ _ _ _ _ c.requires.2 c.loop-left.invariant (omega arith) c.shown_run-run.ensures.0 c.shown_run-run.ensures.1
-    (search rules) c.value_of-value.ensures c.fill_values.ensures
+    (search rules) c.value_of-value.ensures c.fill.ensures
 
 pub shape_of-values : goal.shape_of-values
 shape_of-values c = laws.filled-long c.loop-left.invariant

@@ -1,12 +1,14 @@
--- `format::bare` meets its contract: the answer that the number gives, with nothing at the head. Assumes nothing.
-use mathlib.Core.Path.{ap, sym, ◌∙◌}
+-- `format::bare` meets its contract: the refusal as it came, or nothing at the head. Assumes nothing.
+use Rattle.std.proofs.lemmas.Result.{err_from_is_err_and}
+use Rattle.limits.proofs.Refused.{refusal-some}
 use Rattle.format.specs.Opening.{head}
-use Rattle.format.specs.Found.{found_by}
 use Rattle.format.proofs.Answers as laws
 use Rattle.format.proofs.bare.Goals as goal
 
-pub returns-then-number-eq0 : goal.returns-then-number-eq0
-returns-then-number-eq0 c = laws.sound-by (head 0 0 0 0) ∙ ap (λ e. found_by e (head 0 0 0 0)) (sym c.if-number-eq0.true)
+pub returns-in_err-outcome : goal.returns-in_err-outcome
+returns-in_err-outcome c =
+    let p = err_from_is_err_and c.from_residual.result c.from_residual.ensures.1 in
+    rw (p.1, p.2, c.in_err-outcome.was) (laws.refused-by _ _ (refusal-some _))
 
 pub returns : goal.returns
-returns c = laws.refused-by _ _ c.if-number-eq0.false
+returns c = rw c.in_ok-outcome.was (laws.sound-by (head 0 0 0 0))

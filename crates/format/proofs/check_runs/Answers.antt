@@ -1,44 +1,39 @@
 -- `format::check_runs` meets its contract: each return by the law of the head that was found. Assumes nothing.
-use mathlib.Core.Path.{◌∙◌}
+use Rattle.std.specs.Prelude.{Ok}
+use Rattle.std.proofs.lemmas.Result.{err_from_is_err_and}
+use mathlib.Core.Path.{refl, ap, ◌∙◌}
 use native.Mathlib.Omega.{arith}
-use Rattle.rle.proofs.Opening.{Sound as SoundHead}
+use Rattle.limits.proofs.Refused.{refusal-some}
 use Rattle.format.proofs.RunBlocks as laws
 use Rattle.format.proofs.check_runs.Goals as goal
 
+pub returns-in_err-found : goal.returns-in_err-found
+returns-in_err-found c =
+    let p = err_from_is_err_and c.from_residual.result c.from_residual.ensures.1 in
+    rw (p.1, p.2) (laws.head-wrong _ _ _ c.in_err-found.ensures refl)
+
+pub returns-in_default : goal.returns-in_default
+returns-in_default c = c.bare.ensures ∙ laws.no_block _ _ _ c.in_ok-found.ensures (ap Ok c.in_default.is)
+
 pub overflow_add-end : goal.overflow_add-end
 overflow_add-end c =
-    let sound : let a = c.args in
-    SoundHead a.rows a.s.now c.in-Runs.runs c.in-Runs.counts = laws.head-right _ _ c.find_head-head.ensures c.in-Runs.is in
-    let s = sound in omega arith
+    let sound = laws.head-right _ _ c.in_ok-found.ensures (ap Ok c.in-Some.is) in
+    omega (arith, sound.room)
 
 pub slice_bounds-check_inner-count : goal.slice_bounds-check_inner-count
-slice_bounds-check_inner-count c =
-    let sound : let a = c.args in
-    SoundHead a.rows a.s.now c.in-Runs.runs c.in-Runs.counts = laws.head-right _ _ c.find_head-head.ensures c.in-Runs.is in
-    (sound).room
+slice_bounds-check_inner-count c = (laws.head-right _ _ c.in_ok-found.ensures (ap Ok c.in-Some.is)).room
 
 pub slice_bounds-check_inner-start : goal.slice_bounds-check_inner-start
-slice_bounds-check_inner-start c =
-    let sound : let a = c.args in
-    SoundHead a.rows a.s.now c.in-Runs.runs c.in-Runs.counts = laws.head-right _ _ c.find_head-head.ensures c.in-Runs.is in
-    (sound).room
+slice_bounds-check_inner-start c = (laws.head-right _ _ c.in_ok-found.ensures (ap Ok c.in-Some.is)).room
 
-pub check_inner-number-requires : goal.check_inner-number-requires
-check_inner-number-requires c =
-    let sound : let a = c.args in
-    SoundHead a.rows a.s.now c.in-Runs.runs c.in-Runs.counts = laws.head-right _ _ c.find_head-head.ensures c.in-Runs.is in
-    (sound).many
+pub check_inner-requires : goal.check_inner-requires
+check_inner-requires c = (laws.head-right _ _ c.in_ok-found.ensures (ap Ok c.in-Some.is)).many
 
-pub returns-then-number-ne0 : goal.returns-then-number-ne0
-returns-then-number-ne0 c =
-    laws.inner-wrong _ _ _ c.find_head-head.ensures c.in-Runs.is c.check_inner-number.ensures c.if-number-ne0.true
+pub returns-in_err-check_inner : goal.returns-in_err-check_inner
+returns-in_err-check_inner c =
+    let p = err_from_is_err_and c.from_residual-in_err-check_inner.result c.from_residual-in_err-check_inner.ensures.1 in
+    rw (p.1, p.2)
+    (laws.inner-wrong _ _ _ c.in_ok-found.ensures (ap Ok c.in-Some.is) c.in_err-check_inner.ensures (refusal-some _))
 
-pub returns-in-Empty : goal.returns-in-Empty
-returns-in-Empty c = c.bare.ensures ∙ laws.no_block _ _ _ c.find_head-head.ensures c.in-Empty.is
-
-pub returns-in-Refused : goal.returns-in-Refused
-returns-in-Refused c = laws.head-wrong _ _ _ c.find_head-head.ensures c.in-Refused.is
-
-pub returns-else-number-ne0 : goal.returns-else-number-ne0
-returns-else-number-ne0 c =
-    laws.inner-right _ _ _ c.find_head-head.ensures c.in-Runs.is c.check_inner-number.ensures (omega arith)
+pub returns : goal.returns
+returns c = laws.inner-right _ _ _ c.in_ok-found.ensures (ap Ok c.in-Some.is) c.in_ok-check_inner.ensures refl

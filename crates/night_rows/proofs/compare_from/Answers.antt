@@ -1,5 +1,4 @@
--- `compare_from` meets its contract. The loop's invariant: the place is between its bounds. Its measure is what is left. Assumes nothing.
-use Prim.Native.Nat.{◌-◌}
+-- `compare_from` meets its contract. Both engines give every row alike. Assumes nothing.
 use mathlib.Core.Path.{sym, ◌∙◌}
 use Rattle.encode.proofs.Bools.{clash}
 use Rattle.night_rows.proofs.compare_from.Goals as goal

@@ -1,6 +1,8 @@
 -- `compare_opened` meets its contract: each return by the law of the number that led there. Assumes nothing.
 use native.Mathlib.Omega.{arith}
-use mathlib.Core.Path.{sym, ◌∙◌}
+use Rattle.night_rows.specs.declared.Verdict.TheVariants.{Same}
+use Rattle.night_rows.specs.Night.{rows_compared}
+use mathlib.Core.Path.{◌≡◌, ap, sym, ◌∙◌}
 use Rattle.slow_laws.proofs.Refusing.{refused-too-far}
 use Rattle.night_rows.proofs.Columns as laws
 use Rattle.night_rows.proofs.compare_opened.Goals as goal
@@ -25,6 +27,7 @@ pub compare_rows-requires : goal.compare_rows-requires
 compare_rows-requires c =
     (record { sound = sym c.requires.0 ∙ c.if-number-ne0.false; opened = c.requires.1 c.if-number-ne0.false }, c.requires.2)
 
-pub returns : goal.returns
-returns c =
-    laws.same-verdict _ _ (sym c.requires.0 ∙ c.if-number-ne0.false) c.compare_rows.ensures
+pub returns-in-Ok : goal.returns-in-Ok
+returns-in-Ok c =
+    let rows : c.in-Ok.rows ≡ rows_compared c.args.d.rows = cc in
+    laws.same-verdict _ _ (sym c.requires.0 ∙ c.if-number-ne0.false) (ap Same rows)

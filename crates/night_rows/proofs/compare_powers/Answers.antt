@@ -1,11 +1,11 @@
 -- `compare_powers` meets its contract. The loop's invariant is `Met`: the powers met so far are those that are due. Its measure is what is left. Assumes nothing.
-use Prim.Native.Nat.{◌-◌, ◌≤◌}
+use Prim.Native.Nat.{◌≤◌}
 use native.Mathlib.Omega.{arith}
 use mathlib.Core.Path.{sym, ap, ◌∙◌}
 use borrow.Author.Rules.{rules}
 use Rattle.limits.specs.Limits.{MOST_ROWS}
 use Rattle.encode.proofs.Bools.{clash}
-use Rattle.night_rows.specs.declared.Verdict.TheVariants.{Same}
+use Rattle.std.specs.Prelude.{Ok}
 use Rattle.night_rows.proofs.Powers as laws
 use Rattle.night_rows.proofs.Columns.{few-rows}
 use Rattle.night_rows.proofs.compare_powers.Goals as goal
@@ -34,4 +34,4 @@ loop-r-preserved c =
     (laws.met-one _ c.loop-r.invariant.0 c.loop-r-test.true m, search rules, search rules)
 
 pub returns : goal.returns
-returns c = ap Same (laws.all-met _ c.loop-r.invariant.0 c.loop-r-test.false)
+returns c = ap Ok (laws.all-met _ c.loop-r.invariant.0 c.loop-r-test.false)

@@ -1,5 +1,4 @@
--- `nullable::blank` meets its contract. The loop's invariant is `Blanking`, its measure the rows that are left. Assumes nothing.
-use Prim.Native.Nat.{◌-◌}
+-- `nullable::blank` meets its contract. The loop's invariant is `Blanking`. Assumes nothing.
 use native.Mathlib.Omega.{arith}
 use mir.Syntax.{w64}
 use mir.Facts.{to_z-of_z}

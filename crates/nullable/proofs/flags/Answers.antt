@@ -1,5 +1,4 @@
 -- `nullable::flags` meets its contract. The loop's invariant is `Telling` of the bits, its measure the rows that are left. Assumes nothing.
-use Prim.Native.Nat.{◌-◌}
 use native.Mathlib.Omega.{arith}
 use Rattle.nullable.proofs.Rows as laws
 use Rattle.nullable.proofs.flags.Goals as goal

@@ -8,5 +8,5 @@ use Rattle.part_rows.proofs.write_flags.Goals as goal
 pub returns-in-Bare : goal.returns-in-Bare
 returns-in-Bare c =
     let a = c.args in
-    c.fill_bytes.ensures
+    c.fill.ensures
     ∙ ap (sets a.flags.now 0) (bare-flags a.parts a.from a.block.now a.n c.in-Bare.is c.requires.1.fine)

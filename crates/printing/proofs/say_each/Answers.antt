@@ -1,5 +1,4 @@
--- `say_each` meets its contract: the rows that are left decide what comes back of all of them. The measure is their number. Assumes nothing.
-use Prim.Native.Nat.{◌-◌}
+-- `say_each` meets its contract: the rows that are left decide what comes back of all of them. Assumes nothing.
 use native.Mathlib.Omega.{arith}
 use Rattle.printing.proofs.RowsListed as laws
 use Rattle.printing.proofs.say_each.Goals as goal

@@ -6,7 +6,7 @@ use Rattle.printing.proofs.say_rows.Goals as goal
 
 pub returns-in_default : goal.returns-in_default
 returns-in_default c =
-    absurd (laws.kind-named _ c.requires (sym c.kind_of-found.ensures ∙ c.in_default.is))
+    absurd (laws.kind-named _ c.requires (sym c.kind_of.ensures ∙ c.in_default.is))
 
 pub returns : goal.returns
 returns c =

@@ -1,6 +1,5 @@
 -- `repaired::mark_lost` meets its contract. The loop's invariant is `Marking`; its measure is what is left to mark, and what is left to take. Assumes nothing.
 use native.Mathlib.Omega.{arith}
-use Prim.Native.Nat.{◌-◌}
 use mathlib.Core.List.{[]}
 use mathlib.Core.Path.{refl}
 use Rattle.repaired.proofs.Ahead as ahead

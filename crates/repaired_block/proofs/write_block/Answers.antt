@@ -113,7 +113,7 @@ returns c =
     (room).0
     c.high_first.ensures
     c.put.ensures
-    c.high_first4.ensures
+    c.high_first-2.ensures
     c.put-2.ensures
     p.9
     c.write_entries.ensures

@@ -12,28 +12,28 @@ returns-then-n-eq0 c = going_end (going_start _ _ _ _) (omega arith)
 pub returns-then-from-eq0 : goal.returns-then-from-eq0
 returns-then-from-eq0 c = c.pass_on.ensures ∙ from-its-start _ _ _ _ c.if-from-eq0.true
 
-pub returns-in_default : goal.returns-in_default
-returns-in_default c = going-wrong (going_start _ _ _ _) (omega arith) c.rest_of-rest.ensures c.in_default.is
+pub returns-in_err-rest : goal.returns-in_err-rest
+returns-in_err-rest c = c.from_residual.ensures ∙ going-wrong (going_start _ _ _ _) (omega arith) c.rest_of.ensures c.in_err-rest.was
 
 pub overflow_add-result : goal.overflow_add-result
 overflow_add-result c =
-    let f = found _ _ _ c.rest_of-rest.ensures c.in-Rows.is in
+    let f = found _ _ _ c.rest_of.ensures c.in_ok-rest.was in
     omega arith
 
-pub returns-then-n-free : goal.returns-then-n-free
-returns-then-n-free c =
-    going-in (going_start _ _ _ _) (omega arith) c.rest_of-rest.ensures c.in-Rows.is (omega arith)
+pub returns-then-n-rest : goal.returns-then-n-rest
+returns-then-n-rest c =
+    going-in (going_start _ _ _ _) (omega arith) c.rest_of.ensures c.in_ok-rest.was (omega arith)
 
 pub overflow_add-from : goal.overflow_add-from
 overflow_add-from c =
-    let f = found _ _ _ c.rest_of-rest.ensures c.in-Rows.is in
+    let f = found _ _ _ c.rest_of.ensures c.in_ok-rest.was in
     omega arith
 
 pub overflow_add-from-2 : goal.overflow_add-from-2
 overflow_add-from-2 c =
-    let f = found _ _ _ c.rest_of-rest.ensures c.in-Rows.is in
+    let f = found _ _ _ c.rest_of.ensures c.in_ok-rest.was in
     omega arith
 
 pub returns : goal.returns
 returns c =
-    c.pass_on-2.ensures ∙ sym (going_on (going_start _ _ _ _) (omega arith) c.rest_of-rest.ensures c.in-Rows.is (omega arith)).whole
+    c.pass_on-2.ensures ∙ sym (going_on (going_start _ _ _ _) (omega arith) c.rest_of.ensures c.in_ok-rest.was (omega arith)).whole

@@ -1,4 +1,7 @@
 -- `rle::find_head` meets its contract: each return by the law of the rules tested so far. Assumes nothing.
+use mathlib.Core.Path.{ap}
+use Rattle.std.proofs.lemmas.Result.{err_from_is_err_and}
+use Rattle.limits.specs.Refusals.{by_number}
 use native.Mathlib.Omega.{arith}
 use Rattle.rle.proofs.Opening as laws
 use Rattle.rle.proofs.find_head.Goals as goal
@@ -32,9 +35,11 @@ returns-then-n-end c =
     c.u32_at-counts.ensures.0
     (omega arith)
 
-pub returns-in-Refused : goal.returns-in-Refused
-returns-in-Refused c =
-    laws.walk_refused
+pub returns-in_err-total : goal.returns-in_err-total
+returns-in_err-total c =
+    let p = err_from_is_err_and c.from_residual.result c.from_residual.ensures.1 in
+    rw (p.1, p.2)
+    (laws.walk_refused
     _
     _
     c.if-n-eq0.false
@@ -44,8 +49,8 @@ returns-in-Refused c =
     c.if-runs-eq0.false
     c.u32_at-counts.ensures.0
     (omega arith)
-    c.walk-sum.ensures
-    c.in-Refused.is
+    c.walk.ensures
+    (ap by_number c.in_err-total.was))
 
 pub returns-then-total-rows : goal.returns-then-total-rows
 returns-then-total-rows c =
@@ -59,8 +64,8 @@ returns-then-total-rows c =
     c.if-runs-eq0.false
     c.u32_at-counts.ensures.0
     (omega arith)
-    c.walk-sum.ensures
-    c.in-Total.is
+    c.walk.ensures
+    (ap by_number c.in_ok-total.was)
     (omega arith)
 
 pub returns-else-total-rows : goal.returns-else-total-rows
@@ -75,6 +80,6 @@ returns-else-total-rows c =
     c.if-runs-eq0.false
     c.u32_at-counts.ensures.0
     (omega arith)
-    c.walk-sum.ensures
-    c.in-Total.is
+    c.walk.ensures
+    (ap by_number c.in_ok-total.was)
     c.if-total-rows.false

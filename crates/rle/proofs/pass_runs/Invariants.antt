@@ -1,6 +1,5 @@
 -- `rle::pass_runs` meets its contract. The loop keeps where the rows that are left to pass lead to; the measure is the runs left before the last. Assumes
 -- nothing.
-use Prim.Native.Nat.{◌-◌}
 use Rattle.rle.specs.Stepping.{spot}
 use Rattle.rle.proofs.Advancing as laws
 use Rattle.rle.proofs.pass_runs.Given as goal

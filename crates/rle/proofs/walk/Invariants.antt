@@ -1,6 +1,6 @@
 -- `rle::walk` meets its contract. The loop keeps that the sum so far and the walk over the rest are the whole; the measure is the runs left.
 -- Assumes nothing.
-use Prim.Native.Nat.{◌-◌, ◌<◌}
+use Prim.Native.Nat.{◌<◌}
 use Rattle.rle.proofs.Walking.{Walking}
 use Rattle.rle.proofs.walk.Given as goal
 

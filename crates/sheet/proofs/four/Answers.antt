@@ -6,4 +6,4 @@ use Rattle.sheet.proofs.four.Goals as goal
 pub returns : goal.returns
 returns c =
     let a = c.args in
-    (laws.read_as (number_of high-first) 4 a.at a.file.now c.requires c.item.ensures c.high4.ensures.0, c.high4.ensures.1)
+    (laws.read_as (number_of high-first) 4 a.at a.file.now c.requires c.item.ensures c.high.ensures.0, c.high.ensures.1)

@@ -1,6 +1,5 @@
--- `sheet_writer::put_entries` meets its contract. The loop's invariant is `Entering`, its measure the columns that are left. Assumes nothing.
+-- `sheet_writer::put_entries` meets its contract. The loop's invariant is `Entering`. Assumes nothing.
 use native.Mathlib.Omega.{arith}
-use Prim.Native.Nat.{◌-◌}
 use Rattle.sheet_writer.proofs.Loops as laws
 use Rattle.sheet_writer.proofs.put_entries.Goals as goal
 

@@ -6,5 +6,5 @@ pub returns : goal.returns
 returns c =
     let a = c.args in
     laws.entry-put a.numbers.now a.place a.at a.out.now a.to
-    c.descriptor_at-d.ensures c.pack.ensures c.high_first4.ensures c.high_first4-2.ensures
+    c.descriptor_at-d.ensures c.pack.ensures c.high_first.ensures c.high_first-2.ensures
     c.put.ensures c.put-2.ensures c.put-3.ensures

@@ -1,5 +1,4 @@
 -- `shorts::count_short` meets its contract: what is counted so far and what is left make up the whole. Assumes nothing.
-use Prim.Native.Nat.{◌-◌}
 use native.Mathlib.Omega.{arith}
 use Rattle.shorts.proofs.Adding.{adding-start, adding-step, adding-end}
 use Rattle.shorts.proofs.count_short.Goals as goal

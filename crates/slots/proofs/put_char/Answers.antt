@@ -29,8 +29,8 @@ overflow_sub-width c =
     let short : c.args.present ≡ true → length c.args.item.now ≤ c.args.width = λ t. let a = c.args in char-short a.present a.item.now a.items.now a.at a.width c.requires.0 c.requires.1 t in
     short c.if-present.true
 
-pub fill_bytes-requires : goal.fill_bytes-requires
-fill_bytes-requires c =
+pub fill-requires : goal.fill-requires
+fill-requires c =
     let room : c.args.at + c.args.width ≤ length c.args.items.now = let a = c.args in char-room a.present a.item.now a.items.now a.at a.width c.requires.0 c.requires.1 in
     let short : c.args.present ≡ true → length c.args.item.now ≤ c.args.width = λ t. let a = c.args in char-short a.present a.item.now a.items.now a.at a.width c.requires.0 c.requires.1 t in
     let r = room in
@@ -39,13 +39,13 @@ fill_bytes-requires c =
 
 pub returns-then-present : goal.returns-then-present
 returns-then-present c =
-    char-put _ _ _ _ _ c.requires.0 c.requires.1 c.if-present.true c.copy.ensures c.fill_bytes.ensures
+    char-put _ _ _ _ _ c.requires.0 c.requires.1 c.if-present.true c.copy.ensures c.fill.ensures
 
-pub fill_bytes-requires-2 : goal.fill_bytes-requires-2
-fill_bytes-requires-2 c =
+pub fill-requires-2 : goal.fill-requires-2
+fill-requires-2 c =
     let room : c.args.at + c.args.width ≤ length c.args.items.now = let a = c.args in char-room a.present a.item.now a.items.now a.at a.width c.requires.0 c.requires.1 in
     room
 
 pub returns : goal.returns
 returns c =
-    char-none _ _ _ _ _ c.requires.0 c.requires.1 c.if-present.false c.fill_bytes-2.ensures
+    char-none _ _ _ _ _ c.requires.0 c.requires.1 c.if-present.false c.fill-2.ensures

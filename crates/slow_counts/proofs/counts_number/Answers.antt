@@ -1,6 +1,5 @@
--- `counts_number` meets its contract. The loop keeps that the sum so far and the walk over the rest are the whole; the measure is the runs left. Assumes
+-- `counts_number` meets its contract. The loop keeps that the sum so far and the walk over the rest are the whole. Assumes
 -- nothing.
-use Prim.Native.Nat.{◌-◌}
 use native.Mathlib.Omega.{arith}
 use Rattle.rle.proofs.Walking.{walk-used, walk-bad, walk-zero, walk-within, walk-over, walk-sum}
 use Rattle.slow_counts.proofs.Sums.{sums-start, sums-step, number-refused, number-other, number_same}
@@ -14,11 +13,11 @@ returns-then-counts-at c = number-refused _ (walk-used c.loop-i.invariant (omega
 
 pub returns-in_default : goal.returns-in_default
 returns-in_default c =
-    number-refused _ (walk-bad c.loop-i.invariant (omega arith) (omega arith) c.count_at-count.ensures c.in_default.is)
+    number-refused _ (walk-bad c.loop-i.invariant (omega arith) (omega arith) c.count_at.ensures c.in_default.is)
 
-pub returns-then-value-eq0 : goal.returns-then-value-eq0
-returns-then-value-eq0 c =
-    number-refused _ (walk-zero c.loop-i.invariant (omega arith) (omega arith) c.count_at-count.ensures c.in-Number.is (omega arith))
+pub returns-then-count-eq0 : goal.returns-then-count-eq0
+returns-then-count-eq0 c =
+    number-refused _ (walk-zero c.loop-i.invariant (omega arith) (omega arith) c.count_at.ensures c.in-Some.is (omega arith))
 
 pub overflow_add-sum : goal.overflow_add-sum
 overflow_add-sum c =
@@ -26,11 +25,11 @@ overflow_add-sum c =
 
 pub overflow_add-at : goal.overflow_add-at
 overflow_add-at c =
-    omega (arith, walk-within c.loop-i.invariant (omega arith) (omega arith) c.count_at-count.ensures c.in-Number.is)
+    omega (arith, walk-within c.loop-i.invariant (omega arith) (omega arith) c.count_at.ensures c.in-Some.is)
 
 pub loop-i-preserved : goal.loop-i-preserved
 loop-i-preserved c =
-    sums-step c.loop-i.invariant (omega arith) (omega arith) c.count_at-count.ensures c.in-Number.is c.if-value-eq0.false
+    sums-step c.loop-i.invariant (omega arith) (omega arith) c.count_at.ensures c.in-Some.is c.if-count-eq0.false
 
 pub returns-then-at-counts : goal.returns-then-at-counts
 returns-then-at-counts c = number-refused _ (walk-over c.loop-i.invariant (omega arith) (omega arith))

@@ -1,10 +1,6 @@
--- `run_of` meets its contract. The loop keeps which row of the runs left is the one asked for; the measure is the runs left. Assumes nothing.
-use Prim.Native.Nat.{◌-◌}
+-- `run_of` meets its contract. The loop keeps which row of the runs left is the one asked for. Assumes nothing.
 use Rattle.slow_counts.proofs.Leaving.{Leaving}
 use Rattle.slow_counts.proofs.run_of.Given as goal
 
 abbrev pub invariant-loop-run : goal.invariant-loop-run
 invariant-loop-run l = Leaving l.counts l.runs l.row l.left l.at l.run
-
-abbrev pub decreases-loop-run : goal.decreases-loop-run
-decreases-loop-run l = l.runs - l.run

@@ -7,15 +7,15 @@ use Rattle.slow_giving.proofs.give_value.Goals as goal
 pub returns-then-flags-eq0 : goal.returns-then-flags-eq0
 returns-then-flags-eq0 c =
     let a = c.args in
-    int-no-flag a.value a.flag a.values.now a.flags.now c.without_bytes.ensures c.if-flags-eq0.true
+    int-no-flag a.value a.flag a.values.now a.flags.now c.if-flags-eq0.true
 
 pub returns-then-values-eq0 : goal.returns-then-values-eq0
 returns-then-values-eq0 c =
     let a = c.args in
-    int-no-room a.value a.flag a.values.now a.flags.now c.without_bytes-then-values-eq0.ensures c.if-values-eq0.true
+    int-no-room a.value a.flag a.values.now a.flags.now c.if-values-eq0.true
 
 pub returns : goal.returns
 returns c =
     let a = c.args in
     rw (to_z-of_z c.ranges.value)
-    (int-given a.value a.flag a.values.now a.flags.now c.without_bytes-2.ensures (omega arith) (omega arith))
+    (int-given a.value a.flag a.values.now a.flags.now (omega arith) (omega arith))

@@ -1,5 +1,5 @@
 -- `number_at` meets its contract. The loop's invariant: what the bytes that were taken are worth. Assumes nothing.
-use Prim.Native.Nat.{ℕ, ◌-◌}
+use Prim.Native.Nat.{ℕ}
 use mathlib.Core.Path.{◌∙◌, ap}
 use native.Mathlib.Omega.{arith}
 use lib.ListN.{get_or}

@@ -1,10 +1,6 @@
 -- `number_at` meets its contract. The loop's invariant: what the bytes that were taken are worth. Assumes nothing.
-use Prim.Native.Nat.{◌-◌}
 use Rattle.slow_numbers.proofs.Digits.{Taken}
 use Rattle.slow_numbers.proofs.number_at.Given as goal
 
 abbrev pub invariant-loop-i : goal.invariant-loop-i
 invariant-loop-i l = Taken l.s l.at l.w l.high l.i l.n
-
-abbrev pub decreases-loop-i : goal.decreases-loop-i
-decreases-loop-i l = l.w - l.i

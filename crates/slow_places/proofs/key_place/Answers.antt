@@ -13,14 +13,14 @@ pub overflow_add-behind : goal.overflow_add-behind
 overflow_add-behind c =
     omega (arith, keys-read c.args.s.now c.number_at.ensures.0, has_room c.requires, c.requires.opened.short)
 
-pub slice_bounds-key_slot-end : goal.slice_bounds-key_slot-end
-slice_bounds-key_slot-end c =
+pub slice_bounds-key_entry-end : goal.slice_bounds-key_entry-end
+slice_bounds-key_entry-end c =
     omega (arith, keys-read c.args.s.now c.number_at.ensures.0, has_room c.requires)
 
-pub key_slot-requires : goal.key_slot-requires
-key_slot-requires c = has-keys c.requires (keys-read _ c.number_at.ensures.0)
+pub key_entry-requires : goal.key_entry-requires
+key_entry-requires c = has-keys c.requires (keys-read _ c.number_at.ensures.0)
 
 pub returns : goal.returns
 returns c =
     let h = c.requires in
-    key-told h (keys-read _ c.number_at.ensures.0) (entries-read _ c.number_at-entries.ensures.0) c.key_slot.ensures.0 c.key_slot.ensures.1
+    key-told h (keys-read _ c.number_at.ensures.0) c.key_entry.result (entries-read _ c.number_at-entries.ensures.0) c.key_entry.ensures.0 c.key_entry.ensures.1

@@ -22,6 +22,6 @@ pub returns-then-is_set : goal.returns-then-is_set
 returns-then-is_set c =
     item-told _ _ _ c.requires.1 c.requires.0 c.bitmap_len.ensures c.is_set.ensures c.if-is_set.true
 
-pub returns : goal.returns
-returns c =
+pub returns-else-is_set : goal.returns-else-is_set
+returns-else-is_set c =
     null-told _ _ _ c.requires.1 c.requires.0 c.bitmap_len.ensures c.is_set.ensures c.if-is_set.false

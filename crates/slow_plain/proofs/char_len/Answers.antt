@@ -1,7 +1,6 @@
 -- `char_len` meets its contract. The loop's invariant: no byte that was passed is a NUL, so that what is left decides the length.
 -- Assumes nothing.
-use Prim.Native.Nat.{◌-◌}
-use mathlib.Core.Path.{refl}
+use mathlib.Core.Path.{◌≡◌, refl, sym, ◌∙◌}
 use native.Mathlib.Omega.{arith}
 use Rattle.plain.proofs.Chars.{uncut-start, uncut-stop, uncut-step, uncut-end}
 use Rattle.slow_plain.proofs.char_len.Goals as goal
@@ -16,4 +15,7 @@ pub loop-len-preserved : goal.loop-len-preserved
 loop-len-preserved c = uncut-step c.loop-len.invariant (omega arith) (omega arith) c.if-s-from-eq0.false
 
 pub returns : goal.returns
-returns c = (uncut-end c.loop-len.invariant (omega arith), omega arith)
+returns c =
+    let a = c.args in
+    let e : c.loop-len.len ≡ a.w = omega arith in
+    (sym e ∙ uncut-end c.loop-len.invariant (omega arith), omega arith)

@@ -1,11 +1,7 @@
 -- `char_len` meets its contract. The loop's invariant: no byte that was passed is a NUL, so that what is left decides the length.
 -- Assumes nothing.
-use Prim.Native.Nat.{◌-◌}
 use Rattle.plain.proofs.Chars.{Uncut}
 use Rattle.slow_plain.proofs.char_len.Given as goal
 
 abbrev pub invariant-loop-len : goal.invariant-loop-len
 invariant-loop-len l = Uncut l.w l.s l.i l.from l.len
-
-abbrev pub decreases-loop-len : goal.decreases-loop-len
-decreases-loop-len l = l.w - l.len

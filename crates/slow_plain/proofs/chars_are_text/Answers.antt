@@ -1,5 +1,4 @@
 -- `chars_are_text` meets its contract. The loop's invariant: the items that were passed are text, so that those left decide. Assumes nothing.
-use Prim.Native.Nat.{◌-◌}
 use mathlib.Core.Path.{sym, ap, ◌∙◌}
 use native.Mathlib.Omega.{arith}
 use Rattle.utf8.specs.Utf8.{is_text}

@@ -1,5 +1,4 @@
 -- `ends_number` meets its contract. The loop's invariant: the ends that are left decide whether all of them rise and which is the last. Assumes nothing.
-use Prim.Native.Nat.{◌-◌}
 use mathlib.Core.Path.{sym, ◌∙◌}
 use native.Mathlib.Omega.{arith}
 use Rattle.plain.proofs.Ends.{rising-start, rising_step, rising-all, end_falls, end-passes, ends-missing, ends-wrong, last-other, last-same}

@@ -1,10 +1,6 @@
 -- `ends_number` meets its contract. The loop's invariant: the ends that are left decide whether all of them rise and which is the last. Assumes nothing.
-use Prim.Native.Nat.{◌-◌}
 use Rattle.plain.proofs.Ends.{Rising}
 use Rattle.slow_plain.proofs.ends_number.Given as goal
 
 abbrev pub invariant-loop-i : goal.invariant-loop-i
 invariant-loop-i l = Rising l.s l.n l.data l.before l.i
-
-abbrev pub decreases-loop-i : goal.decreases-loop-i
-decreases-loop-i l = l.n - l.i

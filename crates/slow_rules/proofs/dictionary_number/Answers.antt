@@ -1,9 +1,12 @@
 -- `dictionary_number` meets its contract: each return by the law of the rules tested so far. Assumes nothing.
+use mathlib.Core.Path.{refl, ◌∙◌}
 use native.Mathlib.Omega.{arith}
 use mathlib.Core.Bool.{true}
 use Rattle.dict.specs.Dictionary.{key_length, entries_in}
 use Rattle.format.proofs.Dictionaries as heads
 use Rattle.slow_numbers.specs.Numbers.{order_by}
+use Rattle.limits.proofs.Refused.{refusal-some}
+use Rattle.slow_plain.proofs.Refused.{passed-on}
 use Rattle.slow_rules.proofs.Dictionaries as laws
 use Rattle.slow_rules.proofs.dictionary_number.Goals as goal
 
@@ -20,24 +23,26 @@ returns-then-room-keys c =
     laws.refused _ _ _
     (heads.cut_short true _ _ _ (omega arith) c.number_at-entries.ensures.0 (omega arith) c.number_at-keys.ensures.0 (omega arith))
 
-pub returns-then-number-ne0 : goal.returns-then-number-ne0
+pub returns-in_err-run_length_number : goal.returns-in_err-run_length_number
 unfolding order_by entries_in key_length
-returns-then-number-ne0 c =
-    laws.runs-wrong _ _ _ (omega arith) c.number_at-entries.ensures.0 (omega arith) c.number_at-keys.ensures.0 (omega arith)
-    c.run_length_number-number.ensures c.if-number-ne0.true
+returns-in_err-run_length_number c =
+    passed-on _ _ c.from_residual.ensures.1
+    ∙ laws.runs-wrong _ _ _ (omega arith) c.number_at-entries.ensures.0 (omega arith) c.number_at-keys.ensures.0 (omega arith)
+    c.in_err-run_length_number.ensures (refusal-some _)
 
 -- the key block gave 0
-pub keys_number-unknown-requires : goal.keys_number-unknown-requires
-keys_number-unknown-requires c = laws.keys-sound _ _ c.run_length_number-number.ensures c.if-number-ne0.false
+pub keys_number-requires : goal.keys_number-requires
+keys_number-requires c = laws.keys-sound _ _ c.in_ok-run_length_number.ensures refl
 
-pub returns-then-unknown-ne0 : goal.returns-then-unknown-ne0
+pub returns-in_err-keys_number : goal.returns-in_err-keys_number
 unfolding order_by entries_in key_length
-returns-then-unknown-ne0 c =
-    laws.keys-wrong _ _ _ (omega arith) c.number_at-entries.ensures.0 (omega arith) c.number_at-keys.ensures.0 (omega arith)
-    c.run_length_number-number.ensures c.if-number-ne0.false c.keys_number-unknown.ensures c.if-unknown-ne0.true
+returns-in_err-keys_number c =
+    passed-on _ _ c.from_residual-in_err-keys_number.ensures.1
+    ∙ laws.keys-wrong _ _ _ (omega arith) c.number_at-entries.ensures.0 (omega arith) c.number_at-keys.ensures.0 (omega arith)
+    c.in_ok-run_length_number.ensures refl c.in_err-keys_number.ensures (refusal-some _)
 
 pub returns : goal.returns
 unfolding order_by entries_in key_length
 returns c =
     laws.then-entries _ _ _ (omega arith) c.number_at-entries.ensures.0 (omega arith) c.number_at-keys.ensures.0 (omega arith)
-    c.run_length_number-number.ensures c.if-number-ne0.false c.keys_number-unknown.ensures c.if-unknown-ne0.false c.plain_number.ensures
+    c.in_ok-run_length_number.ensures refl c.in_ok-keys_number.ensures refl c.plain_number.ensures

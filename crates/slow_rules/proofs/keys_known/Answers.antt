@@ -1,5 +1,4 @@
 -- `keys_known` meets its contract. The loop's invariant is `Looking`, its measure the keys that are left. Assumes nothing.
-use Prim.Native.Nat.{◌-◌}
 use native.Mathlib.Omega.{arith}
 use Rattle.dict.proofs.Slots as laws
 use Rattle.slow_rules.proofs.keys_known.Goals as goal

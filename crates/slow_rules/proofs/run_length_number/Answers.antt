@@ -1,7 +1,10 @@
 -- `run_length_number` meets its contract: each return by the law of the rules tested so far. Assumes nothing.
+use mathlib.Core.Path.{refl, ◌∙◌}
 use native.Mathlib.Omega.{arith}
 use Rattle.slow_numbers.specs.Numbers.{order_by}
 use Rattle.rle.proofs.Opening as heads
+use Rattle.limits.proofs.Refused.{refusal-some}
+use Rattle.slow_plain.proofs.Refused.{passed-on}
 use Rattle.slow_rules.proofs.Runs as laws
 use Rattle.slow_rules.proofs.run_length_number.Goals as goal
 
@@ -30,14 +33,16 @@ returns-then-s-end c =
     (heads.cut_short _ _ c.if-s-eq0.false (omega arith) c.number_at-runs.ensures.0 (omega arith)
     c.if-runs-eq0.false c.number_at.ensures.0 (omega arith))
 
-pub returns-then-number-ne0 : goal.returns-then-number-ne0
+pub returns-in_err-counts_number : goal.returns-in_err-counts_number
 unfolding order_by
-returns-then-number-ne0 c =
-    laws.counts-wrong _ _ _ c.if-s-eq0.false (omega arith) c.number_at-runs.ensures.0 (omega arith)
-    c.if-runs-eq0.false c.number_at.ensures.0 (omega arith) c.counts_number-number.ensures c.if-number-ne0.true
+returns-in_err-counts_number c =
+    passed-on _ _ c.from_residual.ensures.1
+    ∙ laws.counts-wrong _ _ _ c.if-s-eq0.false (omega arith) c.number_at-runs.ensures.0 (omega arith)
+    c.if-runs-eq0.false c.number_at.ensures.0 (omega arith)
+    c.in_err-counts_number.ensures (refusal-some _)
 
 pub returns : goal.returns
 unfolding order_by
 returns c =
     laws.then-inner _ _ _ c.if-s-eq0.false (omega arith) c.number_at-runs.ensures.0 (omega arith)
-    c.if-runs-eq0.false c.number_at.ensures.0 (omega arith) c.counts_number-number.ensures c.if-number-ne0.false c.inner_number.ensures
+    c.if-runs-eq0.false c.number_at.ensures.0 (omega arith) c.in_ok-counts_number.ensures refl c.inner_number.ensures

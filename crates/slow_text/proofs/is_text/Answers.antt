@@ -1,18 +1,20 @@
 -- `is_text` meets its contract. The loop's invariant: what is due, and the bytes that are left, decide what is due in the end. Assumes nothing.
-use Prim.Native.Nat.{◌-◌}
 use mathlib.Core.Path.{refl}
 use native.Mathlib.Omega.{arith}
-use Rattle.slow_text.proofs.Going.{going_start, going_step, going_end}
+use Rattle.slow_text.proofs.Going.{going_start, going_step, going_never, going_end}
 use Rattle.slow_text.proofs.is_text.Goals as goal
 
 pub loop-i-init : goal.loop-i-init
-loop-i-init c = going_start _ _ _ _ c.asks-d.ensures.0
+loop-i-init c = going_start _ _ _ _ c.asks-due.ensures
 
-pub next-d-requires : goal.next-d-requires
-next-d-requires c = c.loop-i.invariant.known
+pub next-due-requires : goal.next-due-requires
+next-due-requires c = c.loop-i.invariant.known
 
 pub loop-i-preserved : goal.loop-i-preserved
-loop-i-preserved c = going_step c.loop-i.invariant (omega arith) (omega arith) refl c.next-d.ensures
+loop-i-preserved c = going_step c.loop-i.invariant (omega arith) (omega arith) refl c.next-due.ensures
+
+pub returns-in_default : goal.returns-in_default
+returns-in_default c = going_never c.loop-i.invariant (omega arith) c.in_default.is
 
 pub returns : goal.returns
-returns c = going_end c.loop-i.invariant (omega arith)
+returns c = going_end c.loop-i.invariant (omega arith) c.in-Some.is

@@ -1,10 +1,6 @@
 -- `is_text` meets its contract. The loop's invariant: what is due, and the bytes that are left, decide what is due in the end. Assumes nothing.
-use Prim.Native.Nat.{◌-◌}
 use Rattle.slow_text.proofs.Going.{Going}
 use Rattle.slow_text.proofs.is_text.Given as goal
 
 abbrev pub invariant-loop-i : goal.invariant-loop-i
-invariant-loop-i l = Going l.s l.from l.n l.d l.i
-
-abbrev pub decreases-loop-i : goal.decreases-loop-i
-decreases-loop-i l = l.n - l.i
+invariant-loop-i l = Going l.s l.from l.n l.due l.i

@@ -1,6 +1,6 @@
 -- `used::first_blob` meets its contract: the items that the loop has passed are not those bytes, and the next starts where the last of them ends.
 -- Assumes nothing.
-use Prim.Native.Nat.{ℕ, ◌-◌}
+use Prim.Native.Nat.{ℕ}
 use mathlib.Core.Path.{◌≡◌}
 use lib.ListN.{take, drop}
 use Rattle.encode.specs.Kinds.{blob}
@@ -12,6 +12,3 @@ use Rattle.used.proofs.first_blob.Given as goal
 
 abbrev pub invariant-loop-i : goal.invariant-loop-i
 invariant-loop-i l = Passed (first_at (λ (k : ℕ). same (bytes (take l.len (drop l.from l.others))) (plain_row blob l.n l.items k)) l.n) l.n l.i × (l.at ≡ start_at l.items l.i)
-
-abbrev pub decreases-loop-i : goal.decreases-loop-i
-decreases-loop-i l = l.n - l.i

@@ -1,5 +1,4 @@
 -- `is_ascii` meets its contract. The loop's invariant: the largest byte that was passed and the bytes that are left decide. Assumes nothing.
-use Prim.Native.Nat.{◌-◌}
 use mathlib.Core.Path.{refl}
 use native.Mathlib.Omega.{arith}
 use Rattle.utf8.proofs.Ascii.{topped-start, topped-step, topped-end}
@@ -9,7 +8,9 @@ pub loop-i-init : goal.loop-i-init
 loop-i-init c = topped-start _ _ _
 
 pub loop-i-preserved : goal.loop-i-preserved
-loop-i-preserved c = topped-step c.loop-i.invariant (omega arith) (omega arith) _ _ refl c.larger-top.ensures
+loop-i-preserved c =
+    let m = c.max-top.ensures in
+    topped-step c.loop-i.invariant (omega arith) (omega arith) _ _ refl (λ h. omega arith, λ h. omega arith)
 
 pub returns : goal.returns
 returns c = topped-end c.loop-i.invariant (omega arith)

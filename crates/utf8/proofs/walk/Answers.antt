@@ -1,5 +1,4 @@
 -- `walk` meets its contract. The loop's invariant: the state, and the bytes that are left, decide what is due in the end. Assumes nothing.
-use Prim.Native.Nat.{◌-◌}
 use mathlib.Core.Path.{refl}
 use native.Mathlib.Omega.{arith}
 use Rattle.utf8.proofs.Walking.{walking_start, walking-step, walking-end}

@@ -3,11 +3,13 @@ use native.Mathlib.Omega.{arith}
 use Rattle.varint.proofs.Writing as laws
 use Rattle.varint.proofs.encode_u32.Goals as goal
 
-pub returns-then-dst-at : goal.returns-then-dst-at
-returns-then-dst-at c = laws.wrote_none _ _ _ _ c.size-n.ensures (omega arith)
+pub returns-in_err-room : goal.returns-in_err-room
+returns-in_err-room c =
+    let h = c.in_err-room.ensures in
+    rw c.from_residual.ensures (laws.wrote_none _ _ _ _ c.size-n.ensures (omega arith))
 
-pub returns-then-dst-at-2 : goal.returns-then-dst-at-2
-returns-then-dst-at-2 c = laws.wrote_none _ _ _ _ c.size-n.ensures (omega arith)
+pub returns-then-room-n : goal.returns-then-room-n
+returns-then-room-n c = laws.wrote_none _ _ _ _ c.size-n.ensures (omega arith)
 
 pub loop-v-init : goal.loop-v-init
 loop-v-init c = laws.going_start _ _ _ _ (omega arith) (omega arith) (omega arith)

@@ -1,5 +1,4 @@
--- `zeros::few_zeros` meets its contract. The loop's invariant is `Counting`, its measure the bytes that are left. Assumes nothing.
-use Prim.Native.Nat.{◌-◌}
+-- `zeros::few_zeros` meets its contract. The loop's invariant is `Counting`. Assumes nothing.
 use native.Mathlib.Omega.{arith}
 use Rattle.zeros.proofs.Counting as laws
 use Rattle.zeros.proofs.few_zeros.Goals as goal

@@ -8,6 +8,6 @@ pub returns-then-x-eq0 : goal.returns-then-x-eq0
 unfolding zero_in
 returns-then-x-eq0 c = (simp (eq-eqb _ 0 c.if-x-eq0.true), omega arith)
 
-pub returns : goal.returns
+pub returns-else-x-eq0 : goal.returns-else-x-eq0
 unfolding zero_in
-returns c = (simp (ne_eqb _ 0 c.if-x-eq0.false), omega arith)
+returns-else-x-eq0 c = (simp (ne_eqb _ 0 c.if-x-eq0.false), omega arith)

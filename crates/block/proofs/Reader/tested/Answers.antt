@@ -9,15 +9,15 @@ returns-then-nothing_asked c = laws.tests-nothing _ _ _ _ c.nothing_asked.ensure
 
 pub returns-in_default : goal.returns-in_default
 returns-in_default c =
-    laws.tests-unknown _ _ _ _ c.nothing_asked.ensures c.if-nothing_asked.false c.named-column.ensures c.in_default.is
+    laws.tests-unknown _ _ _ _ c.nothing_asked.ensures c.if-nothing_asked.false c.named-found.ensures c.in_default.is
 
 pub returns-then-len-self : goal.returns-then-len-self
 returns-then-len-self c =
-    laws.tests-other _ _ _ _ c.nothing_asked.ensures c.if-nothing_asked.false c.named-column.ensures c.in-Of.is c.if-len-self.true
+    laws.tests-other _ _ _ _ c.nothing_asked.ensures c.if-nothing_asked.false c.named-found.ensures c.in-Some.is c.if-len-self.true
 
 pub returns-then-wrong : goal.returns-then-wrong
 returns-then-wrong c =
-    laws.tests-wrong _ _ _ _ c.nothing_asked.ensures c.if-nothing_asked.false c.named-column.ensures c.in-Of.is
+    laws.tests-wrong _ _ _ _ c.nothing_asked.ensures c.if-nothing_asked.false c.named-found.ensures c.in-Some.is
     c.if-len-self.false c.wrong.ensures c.if-wrong.true
 
 pub overflow_sub-self : goal.overflow_sub-self
@@ -25,10 +25,10 @@ overflow_sub-self c = place-within _ _ _ c.wrong.ensures c.if-wrong.false
 
 pub returns-then-self-skip : goal.returns-then-self-skip
 returns-then-self-skip c =
-    laws.tests-far _ _ _ _ c.nothing_asked.ensures c.if-nothing_asked.false c.named-column.ensures c.in-Of.is
+    laws.tests-far _ _ _ _ c.nothing_asked.ensures c.if-nothing_asked.false c.named-found.ensures c.in-Some.is
     c.if-len-self.false c.wrong.ensures c.if-wrong.false c.if-self-skip.true
 
 pub returns : goal.returns
 returns c =
-    laws.tests-fine _ _ _ _ c.nothing_asked.ensures c.if-nothing_asked.false c.named-column.ensures c.in-Of.is
+    laws.tests-fine _ _ _ _ c.nothing_asked.ensures c.if-nothing_asked.false c.named-found.ensures c.in-Some.is
     c.if-len-self.false c.wrong.ensures c.if-wrong.false (omega arith)

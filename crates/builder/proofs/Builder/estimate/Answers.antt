@@ -1,18 +1,11 @@
--- `builder::Builder::estimate` meets its contract: each return by the law of the tests and arms that led there. Assumes nothing.
-use mathlib.Core.Path.{sym, ◌∙◌}
-use Rattle.builder.proofs.Answers as laws
+-- `builder::Builder::estimate` meets its contract: what it answers inside, as the record that callers see. Assumes nothing.
+use Prim.Native.Nat.{ℕ}
+use mathlib.Core.Path.{ap, ◌∙◌}
+use Rattle.builder.specs.Finishing.{estimated_as}
 use Rattle.builder.proofs.Builder.estimate.Goals as goal
 
-pub returns-in_default : goal.returns-in_default
-returns-in_default c = laws.estimate-unknown _ c.column_of-column.ensures c.in_default.is
+pub returns-in-Ok : goal.returns-in-Ok
+returns-in-Ok c = c.in-Ok.ensures
 
-pub returns-then-is_wrong : goal.returns-then-is_wrong
-returns-then-is_wrong c =
-    laws.estimate-wrong _ c.column_of-column.ensures c.in-Of.is c.is_wrong.ensures c.if-is_wrong.true
-
-pub size_of-requires : goal.size_of-requires
-size_of-requires c = sym c.is_wrong.ensures ∙ c.if-is_wrong.false
-
-pub returns : goal.returns
-returns c =
-    laws.estimate-right _ c.column_of-column.ensures c.in-Of.is c.is_wrong.ensures c.if-is_wrong.false c.size_of.ensures
+pub returns-in-Err : goal.returns-in-Err
+returns-in-Err c = ap (λ (n : ℕ). estimated_as n 0 c.args.self) c.from.ensures ∙ c.in-Err.ensures

@@ -1,23 +1,12 @@
--- `builder::Builder::should_finish` meets its contract: each return by the law of the tests and arms that led there. Assumes nothing.
-use mathlib.Core.Path.{sym, ◌∙◌}
-use Rattle.builder.proofs.Answers as laws
+-- `builder::Builder::should_finish` meets its contract: what it answers inside, as the record that callers see. Assumes nothing.
+use Prim.Native.Nat.{ℕ}
+use mathlib.Core.Bool.{false}
+use mathlib.Core.Path.{ap, ◌∙◌}
+use Rattle.builder.specs.Finishing.{asked_as}
 use Rattle.builder.proofs.Builder.should_finish.Goals as goal
 
-pub returns-in_default : goal.returns-in_default
-returns-in_default c =
-    let a = c.args in
-    laws.asked-unknown _ c.column_of-column.ensures a.present a.len c.in_default.is
+pub returns-in-Ok : goal.returns-in-Ok
+returns-in-Ok c = c.in-Ok.ensures
 
-pub returns-then-is_wrong : goal.returns-then-is_wrong
-returns-then-is_wrong c =
-    let a = c.args in
-    laws.asked-wrong _ c.column_of-column.ensures c.in-Of.is c.is_wrong.ensures a.present a.len c.if-is_wrong.true
-
-pub is_full-requires : goal.is_full-requires
-is_full-requires c = sym c.is_wrong.ensures ∙ c.if-is_wrong.false
-
-pub returns : goal.returns
-returns c =
-    let a = c.args in
-    laws.asked-right _ c.column_of-column.ensures c.in-Of.is c.is_wrong.ensures a.present a.len c.if-is_wrong.false
-    c.is_full.ensures
+pub returns-in-Err : goal.returns-in-Err
+returns-in-Err c = ap (λ (n : ℕ). asked_as n false c.args.self) c.from.ensures ∙ c.in-Err.ensures

@@ -1,9 +1,12 @@
 -- `capi::creation_of` meets its contract: each case of creation's answer by its law. Assumes nothing.
+use mathlib.Core.Path.{sym, ap, ◌∙◌}
+use Rattle.std.specs.Prelude.{Err}
+use Rattle.limits.specs.Refusals.{by_number}
 use Rattle.capi.proofs.Answering as laws
 use Rattle.capi.proofs.building.creation_of.Goals as goal
 
-pub returns-in-New : goal.returns-in-New
-returns-in-New c = laws.makes c.in-New.is
+pub returns-in-Ok : goal.returns-in-Ok
+returns-in-Ok c = laws.makes (ap by_number c.in-Ok.is)
 
-pub returns-in-Refused : goal.returns-in-Refused
-returns-in-Refused c = laws.makes_none c.in-Refused.is c.no_builder.ensures
+pub returns-in-Err : goal.returns-in-Err
+returns-in-Err c = laws.makes_none (ap by_number c.in-Err.is ∙ ap Err (sym c.from.ensures)) c.no_builder.ensures

@@ -2,7 +2,7 @@
 use native.Mathlib.Omega.{arith}
 use Prim.Native.Nat.{◌-◌}
 use mathlib.Core.Bool.{cond}
-use mathlib.Core.Path.{sym, ap, ◌∙◌}
+use mathlib.Core.Path.{refl, sym, ap, ◌∙◌}
 use Rattle.needs.specs.declared.Counted.{Counted}
 use Rattle.needs.proofs.Wrong.{Right, right}
 use Rattle.step.specs.Counting.{grown}
@@ -20,7 +20,7 @@ returns-then-too_long c =
     let a = c.args in
     laws.limited-past a.kind a.e a.c _
     (past-told (laws.item-past a.kind a.e a.c _ a.len a.stored a.joins c.requires.3 c.too_long.ensures c.if-too_long.true))
-    c.past.ensures
+    refl
 
 pub counted_in-first-requires : goal.counted_in-first-requires
 counted_in-first-requires c =
@@ -44,7 +44,7 @@ returns-then-is_past c =
     → laws.Past c.args.kind c.args.e (grown_times c.args.e (cond c.args.present 1 0) c.args.len (c.args.n - 1) (first)) =
     λ h. laws.past_more c.args.kind c.args.e _ c.args.len (c.args.n - 1) (first) h in
     laws.limited-past c.args.kind c.args.e c.args.c _
-    (past-told (laws.same-past c.args.kind c.args.e c.counted_in-first.ensures c.is_past.ensures ∙ c.if-is_past.true)) c.past-then-is_past.ensures
+    (past-told (laws.same-past c.args.kind c.args.e c.counted_in-first.ensures c.is_past.ensures ∙ c.if-is_past.true)) refl
 
 pub runs_counted-requires : goal.runs_counted-requires
 runs_counted-requires c =

@@ -1,6 +1,6 @@
 -- `copies::rows_counted` meets its contract: each return by the law of the tests that led there. Assumes nothing.
 use native.Mathlib.Omega.{arith}
-use mathlib.Core.Path.{sym, ◌∙◌}
+use mathlib.Core.Path.{refl, sym, ◌∙◌}
 use Rattle.encode.proofs.Bools.{clash}
 use Rattle.copies.proofs.Numbers as laws
 use Rattle.copies.proofs.limiting.rows_counted.Goals as goal
@@ -15,7 +15,7 @@ returns-then-first-more c =
     let few-items : laws.RowsFew c.args.e c.args.first = laws.rows_few _ _ _ c.requires.0 c.requires.1 in
     let f = few-items in
     laws.limited-past _ _ _ _ (laws.rows-past c.args.kind c.args.e 0 c.args.len c.requires.0 c.args.more c.args.first (omega (arith, f.0, c.if-first-more.true)))
-    c.past.ensures
+    refl
 
 pub overflow_mul-bytes : goal.overflow_mul-bytes
 overflow_mul-bytes c =
@@ -25,7 +25,7 @@ overflow_mul-bytes c =
 
 pub returns-then-bytes-gt-MOST_BYTES : goal.returns-then-bytes-gt-MOST_BYTES
 returns-then-bytes-gt-MOST_BYTES c =
-    laws.limited-past _ _ _ _ (laws.bytes_past c.args.kind c.args.e 0 c.args.len c.requires.0 c.args.more c.args.first c.if-bytes-gt-MOST_BYTES.true) c.past-then-bytes-gt-MOST_BYTES.ensures
+    laws.limited-past _ _ _ _ (laws.bytes_past c.args.kind c.args.e 0 c.args.len c.requires.0 c.args.more c.args.first c.if-bytes-gt-MOST_BYTES.true) refl
 
 pub overflow_add-all-2 : goal.overflow_add-all-2
 overflow_add-all-2 c =
@@ -42,7 +42,7 @@ is_past-requires c =
 pub returns-then-is_past : goal.returns-then-is_past
 returns-then-is_past c =
     laws.limited-past _ _ _ _
-    (laws.all_told c.args.kind c.args.e 0 c.args.len c.requires.0 c.args.more c.args.first c.is_past.ensures ∙ c.if-is_past.true) c.past-then-is_past.ensures
+    (laws.all_told c.args.kind c.args.e 0 c.args.len c.requires.0 c.args.more c.args.first c.is_past.ensures ∙ c.if-is_past.true) refl
 
 pub returns : goal.returns
 returns c =

@@ -10,7 +10,7 @@ loop-left-init c = record { same = refl; within = c.requires.1; some = c.require
 
 pub returns-then-too_long_again : goal.returns-then-too_long_again
 returns-then-too_long_again c =
-    laws.limited-past _ _ _ _ (laws.going-item _ _ _ _ c.loop-left.invariant c.loop-left-test.true c.too_long_again.ensures c.if-too_long_again.true) c.past.ensures
+    laws.limited-past _ _ _ _ (laws.going-item _ _ _ _ c.loop-left.invariant c.loop-left-test.true c.too_long_again.ensures c.if-too_long_again.true) refl
 
 pub next_stretch-next-requires : goal.next_stretch-next-requires
 next_stretch-next-requires c =
@@ -23,7 +23,7 @@ is_past-requires c = (c.next_stretch-next.ensures.4, λ _. c.next_stretch-next.e
 pub returns-then-is_past : goal.returns-then-is_past
 returns-then-is_past c =
     laws.limited-past _ _ _ _ (laws.going-past _ _ _ _ c.loop-left.invariant _ c.next_stretch-next.ensures.1 c.next_stretch-next.ensures.2 c.is_past.ensures c.if-is_past.true)
-    c.past-then-is_past.ensures
+    refl
 
 pub overflow_sub-left : goal.overflow_sub-left
 overflow_sub-left c = omega (arith, c.next_stretch-next.ensures.1)

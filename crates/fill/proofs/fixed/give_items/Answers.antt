@@ -1,7 +1,10 @@
 -- `fill::give_items` meets its contract: each return by the room that was tested. Assumes nothing.
 use Prim.Native.Nat.{◌+◌}
+use mathlib.Core.Path.{refl}
 use mathlib.Core.List.{[]}
 use native.Mathlib.Omega.{arith}
+use Rattle.std.specs.Prelude.{Err}
+use Rattle.limits.specs.Refusals.{ROOM}
 use Rattle.plain.specs.Plain.{places}
 use Rattle.rle.specs.Stepping.{spot}
 use Rattle.part_rows.proofs.Places.{Read}
@@ -17,7 +20,7 @@ returns-then-values-n c =
     let f = a.from in
     Read a.parts f a.block.now a.n (places a.n f.run) (spot (f.run + a.n) f.at f.taken) = let a = c.args in items-read a.parts a.from a.block.now a.n c.requires.0 c.requires.2 a.p c.requires.1 in
     let a = c.args in
-    let all = fixed_told c.refused.result c.refused.ensures
+    let all = fixed_told (Err ROOM) refl
     (values-short (read) (areas a.values.now a.flags.now [] []) (is-fixed _ _ c.requires.1) (omega arith)) in
     record { value = all.0; values_after = all.1.0; flags_after = all.1.1 }
 
@@ -28,7 +31,7 @@ returns-then-flags-n c =
     let f = a.from in
     Read a.parts f a.block.now a.n (places a.n f.run) (spot (f.run + a.n) f.at f.taken) = let a = c.args in items-read a.parts a.from a.block.now a.n c.requires.0 c.requires.2 a.p c.requires.1 in
     let a = c.args in
-    let all = fixed_told c.refused-then-flags-n.result c.refused-then-flags-n.ensures
+    let all = fixed_told (Err ROOM) refl
     (flags-short (read) (areas a.values.now a.flags.now [] []) (omega arith)) in
     record { value = all.0; values_after = all.1.0; flags_after = all.1.1 }
 

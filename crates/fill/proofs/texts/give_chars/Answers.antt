@@ -24,7 +24,7 @@ returns c =
     m.ended
     (omega (arith, c.write_chars-total.ensures.value.0, m.held))
     (omega (arith, c.write_chars-total.ensures.value.1))
-    (chars-flags a.parts a.from a.block.now a.n c.requires.0 a.w m.alone a.flags.now c.fill_bytes.ensures)
+    (chars-flags a.parts a.from a.block.now a.n c.requires.0 a.w m.alone a.flags.now c.fill.ensures)
     c.write_chars-total.ensures.ends_after
     c.write_chars-total.ensures.bytes_after in
     record { value = all.0; flags_after = all.1.0; ends_after = all.1.1.0; bytes_after = all.1.1.1 }

@@ -1,7 +1,9 @@
 -- `fill::give_weighed` meets its contract: each return by what the look told and the room that was tested. Assumes nothing.
-use mathlib.Core.Path.{◌∙◌, sym}
+use mathlib.Core.Path.{refl}
 use mathlib.Core.List.{[]}
 use native.Mathlib.Omega.{arith}
+use Rattle.std.specs.Prelude.{Err}
+use Rattle.limits.specs.Refusals.{ROOM, DISAGREE}
 use lib.ListN.{length}
 use Rattle.part_rows.proofs.Places.{may_write}
 use Rattle.fill.specs.Areas.{areas}
@@ -13,19 +15,19 @@ use Rattle.fill.proofs.texts.give_weighed.Goals as goal
 pub returns-in_default : goal.returns-in_default
 returns-in_default c =
     let a = c.args in
-    let all = text-told c.refused.result c.refused.ensures
+    let all = text-told (Err DISAGREE) refl
     (looked-stuck a.parts a.from a.block.now a.n (areas [] a.flags.now a.ends.now a.bytes.now)
-    (sym c.in_default.is ∙ c.weigh_rows-weighed.ensures)) in
+    c.in_default.ensures) in
     record { value = all.0; flags_after = all.1.0; ends_after = all.1.1.0; bytes_after = all.1.1.1 }
 
 -- src/texts.rt:147:9
 pub returns-then-flags-n : goal.returns-then-flags-n
 returns-then-flags-n c =
     let looked : let a = c.args in
-    Looked a.parts a.from a.block.now a.n c.in-Total.total c.in-Total.next = let a = c.args in
-    looked-total a.parts a.from a.block.now a.n (sym c.in-Total.is ∙ c.weigh_rows-weighed.ensures) in
+    Looked a.parts a.from a.block.now a.n c.in-Some.weighed.bytes c.in-Some.weighed.next = let a = c.args in
+    looked-total a.parts a.from a.block.now a.n c.in-Some.ensures in
     let a = c.args in
-    let all = text-told c.refused-then-flags-n.result c.refused-then-flags-n.ensures
+    let all = text-told (Err ROOM) refl
     (flags-short (looked).read (areas [] a.flags.now a.ends.now a.bytes.now) (omega arith)) in
     record { value = all.0; flags_after = all.1.0; ends_after = all.1.1.0; bytes_after = all.1.1.1 }
 
@@ -33,10 +35,10 @@ returns-then-flags-n c =
 pub returns-then-ends-n : goal.returns-then-ends-n
 returns-then-ends-n c =
     let looked : let a = c.args in
-    Looked a.parts a.from a.block.now a.n c.in-Total.total c.in-Total.next = let a = c.args in
-    looked-total a.parts a.from a.block.now a.n (sym c.in-Total.is ∙ c.weigh_rows-weighed.ensures) in
+    Looked a.parts a.from a.block.now a.n c.in-Some.weighed.bytes c.in-Some.weighed.next = let a = c.args in
+    looked-total a.parts a.from a.block.now a.n c.in-Some.ensures in
     let a = c.args in
-    let all = text-told c.refused-then-ends-n.result c.refused-then-ends-n.ensures
+    let all = text-told (Err ROOM) refl
     (ends-short (looked).read (areas [] a.flags.now a.ends.now a.bytes.now) c.requires.1 (omega arith)) in
     record { value = all.0; flags_after = all.1.0; ends_after = all.1.1.0; bytes_after = all.1.1.1 }
 
@@ -44,10 +46,10 @@ returns-then-ends-n c =
 pub returns-then-bytes-total : goal.returns-then-bytes-total
 returns-then-bytes-total c =
     let looked : let a = c.args in
-    Looked a.parts a.from a.block.now a.n c.in-Total.total c.in-Total.next = let a = c.args in
-    looked-total a.parts a.from a.block.now a.n (sym c.in-Total.is ∙ c.weigh_rows-weighed.ensures) in
+    Looked a.parts a.from a.block.now a.n c.in-Some.weighed.bytes c.in-Some.weighed.next = let a = c.args in
+    looked-total a.parts a.from a.block.now a.n c.in-Some.ensures in
     let a = c.args in
-    let all = text-told c.refused-then-bytes-total.result c.refused-then-bytes-total.ensures
+    let all = text-told (Err ROOM) refl
     (bytes-short (looked).read (areas [] a.flags.now a.ends.now a.bytes.now) c.requires.1 _ (looked).weight (omega arith)) in
     record { value = all.0; flags_after = all.1.0; ends_after = all.1.1.0; bytes_after = all.1.1.1 }
 
@@ -55,10 +57,10 @@ returns-then-bytes-total c =
 pub returns-then-total-gt-MOST_GIVEN : goal.returns-then-total-gt-MOST_GIVEN
 returns-then-total-gt-MOST_GIVEN c =
     let looked : let a = c.args in
-    Looked a.parts a.from a.block.now a.n c.in-Total.total c.in-Total.next = let a = c.args in
-    looked-total a.parts a.from a.block.now a.n (sym c.in-Total.is ∙ c.weigh_rows-weighed.ensures) in
+    Looked a.parts a.from a.block.now a.n c.in-Some.weighed.bytes c.in-Some.weighed.next = let a = c.args in
+    looked-total a.parts a.from a.block.now a.n c.in-Some.ensures in
     let a = c.args in
-    let all = text-told c.refused-then-total-gt-MOST_GIVEN.result c.refused-then-total-gt-MOST_GIVEN.ensures
+    let all = text-told (Err ROOM) refl
     (total-high (looked).read (areas [] a.flags.now a.ends.now a.bytes.now) c.requires.1 _ (looked).weight (omega arith)) in
     record { value = all.0; flags_after = all.1.0; ends_after = all.1.1.0; bytes_after = all.1.1.1 }
 
@@ -66,8 +68,8 @@ returns-then-total-gt-MOST_GIVEN c =
 pub write_texts-requires : goal.write_texts-requires
 write_texts-requires c =
     let looked : let a = c.args in
-    Looked a.parts a.from a.block.now a.n c.in-Total.total c.in-Total.next = let a = c.args in
-    looked-total a.parts a.from a.block.now a.n (sym c.in-Total.is ∙ c.weigh_rows-weighed.ensures) in
+    Looked a.parts a.from a.block.now a.n c.in-Some.weighed.bytes c.in-Some.weighed.next = let a = c.args in
+    looked-total a.parts a.from a.block.now a.n c.in-Some.ensures in
     let a = c.args in
     let f = sum_fits (looked).read _ (length a.bytes.now) (looked).weight c.if-bytes-total.false c.if-total-gt-MOST_GIVEN.false in
     record { serves = (c.requires.0, is-text _ c.requires.1); may_write = (may_write (looked).read (length a.ends.now) c.if-ends-n.false, c.if-flags-n.false); n_in_bounds = (f.0, f.1) }
@@ -76,8 +78,8 @@ write_texts-requires c =
 pub returns : goal.returns
 returns c =
     let looked : let a = c.args in
-    Looked a.parts a.from a.block.now a.n c.in-Total.total c.in-Total.next = let a = c.args in
-    looked-total a.parts a.from a.block.now a.n (sym c.in-Total.is ∙ c.weigh_rows-weighed.ensures) in
+    Looked a.parts a.from a.block.now a.n c.in-Some.weighed.bytes c.in-Some.weighed.next = let a = c.args in
+    looked-total a.parts a.from a.block.now a.n c.in-Some.ensures in
     let a = c.args in
     let all = texts-written
     (looked).read

@@ -1,6 +1,6 @@
 -- `lookup::finding::find_blob` meets its contract: the items that the loop has passed have good ends and are not the row, and the last is left,
 -- whose end is that of all. Assumes nothing.
-use Prim.Native.Nat.{◌+◌, ◌-◌}
+use Prim.Native.Nat.{◌+◌}
 use mathlib.Core.Path.{◌≡◌, refl, sym, ◌∙◌}
 use mathlib.Core.Bool.{false}
 use mathlib.Core.List.{[]}

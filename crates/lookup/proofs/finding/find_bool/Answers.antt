@@ -1,5 +1,4 @@
 -- `lookup::finding::find_bool` meets its contract: the items that the loop has passed are not the bool. Assumes nothing.
-use Prim.Native.Nat.{◌-◌}
 use mathlib.Core.Bool.{not, beq}
 use mathlib.Core.Path.{◌≡◌, sym, ◌∙◌}
 use native.Mathlib.Omega.{arith}

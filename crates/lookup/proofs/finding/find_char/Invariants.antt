@@ -1,5 +1,4 @@
 -- `lookup::finding::find_char` meets its contract: the items that the loop has passed have good lengths and are not the row. Assumes nothing.
-use Prim.Native.Nat.{◌-◌}
 use mathlib.Core.List.{[]}
 use Rattle.encode.specs.declared.Kind.TheVariants.{Char}
 use Rattle.plain.specs.Rows.{bytes}
@@ -9,6 +8,3 @@ use Rattle.lookup.proofs.finding.find_char.Given as goal
 
 abbrev pub invariant-loop-i : goal.invariant-loop-i
 invariant-loop-i l = Looking (Char l.w) l.n 0 (held l.items [] l.lens) (bytes l.item) l.i
-
-abbrev pub decreases-loop-i : goal.decreases-loop-i
-decreases-loop-i l = l.n - l.i

@@ -1,5 +1,4 @@
--- `lookup::finding::same_as` meets its contract. The loop's invariant is `Matching`, its measure the bytes that are left. Assumes nothing.
-use Prim.Native.Nat.{◌-◌}
+-- `lookup::finding::same_as` meets its contract. The loop's invariant is `Matching`. Assumes nothing.
 use native.Mathlib.Omega.{arith}
 use mathlib.Core.Path.{refl}
 use Rattle.lookup.proofs.Alike.{matching-start, matching-step, matching-other, matching-all}

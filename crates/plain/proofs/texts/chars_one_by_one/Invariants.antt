@@ -1,5 +1,4 @@
 -- `chars_one_by_one` meets its contract. The loop's invariant: the items that were passed are text, so that those left decide. Assumes nothing.
-use Prim.Native.Nat.{◌-◌}
 use Rattle.utf8.specs.Utf8.{is_text}
 use Rattle.plain.specs.Plain.{char_at}
 use Rattle.plain.proofs.TextItems.{Left}
@@ -7,6 +6,3 @@ use Rattle.plain.proofs.texts.chars_one_by_one.Given as goal
 
 abbrev pub invariant-loop-i : goal.invariant-loop-i
 invariant-loop-i l = Left (λ j. is_text (char_at l.w l.s j)) l.n l.i
-
-abbrev pub decreases-loop-i : goal.decreases-loop-i
-decreases-loop-i l = l.n - l.i

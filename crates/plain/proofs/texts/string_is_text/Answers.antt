@@ -9,7 +9,7 @@ use Rattle.plain.proofs.texts.string_is_text.Goals as goal
 pub blob_at-item-requires : goal.blob_at-item-requires
 blob_at-item-requires c =
     let a = c.args in
-    (c.requires.2, c.requires.3, lengths-least blob a.n a.s.now c.requires.4, lengths-good blob a.n a.s.now c.requires.4 a.i c.requires.2)
+    (c.requires.0, c.requires.1, lengths-least blob a.n a.s.now c.requires.2, lengths-good blob a.n a.s.now c.requires.2 a.i c.requires.0)
 
 pub returns-then-is_ascii : goal.returns-then-is_ascii
 returns-then-is_ascii c =
@@ -19,4 +19,4 @@ returns-then-is_ascii c =
 pub returns : goal.returns
 returns c =
     let a = c.args in
-    c.is_text_by.ensures ∙ string-found a.n a.s.now a.i c.blob_at-item.ensures.1
+    c.are_text.ensures ∙ string-found a.n a.s.now a.i c.blob_at-item.ensures.1

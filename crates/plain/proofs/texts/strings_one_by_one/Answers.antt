@@ -1,5 +1,4 @@
 -- `strings_one_by_one` meets its contract. The loop's invariant: the items that were passed are text, so that those left decide. Assumes nothing.
-use Prim.Native.Nat.{◌-◌}
 use mathlib.Core.Path.{sym, ◌∙◌}
 use native.Mathlib.Omega.{arith}
 use Rattle.plain.specs.Plain.{all_text}

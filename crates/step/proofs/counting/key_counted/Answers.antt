@@ -14,8 +14,7 @@ use Rattle.step.proofs.counting.key_counted.Goals as goal
 pub returns-then-too_long : goal.returns-then-too_long
 returns-then-too_long c =
     let a = c.args in
-    c.refused.ensures
-    ∙ laws.long-past a.kind Dictionary a.c a.room (cond a.present 1 0) a.len a.stored a.joins (λ t. clash (sym keys-keyed ∙ t))
+    laws.long-past a.kind Dictionary a.c a.room (cond a.present 1 0) a.len a.stored a.joins (λ t. clash (sym keys-keyed ∙ t))
     c.too_long.ensures c.if-too_long.true
 
 pub next_entries-requires : goal.next_entries-requires
@@ -52,8 +51,7 @@ returns-then-keys_past c =
     c.grown_run-next.result ≡ grown Dictionary a.c (cond a.present 1 0) a.len a.stored a.joins = let a = c.args in
     laws.key-same a.c (cond a.present 1 0) a.len a.stored a.joins c.grown_run-next.ensures c.next_entries.ensures in
     let a = c.args in
-    c.refused-then-keys_past.ensures
-    ∙ laws.counted-limits a.kind Dictionary a.c a.room (next) c.keys_past.ensures c.if-keys_past.true
+    laws.counted-limits a.kind Dictionary a.c a.room (next) c.keys_past.ensures c.if-keys_past.true
 
 pub keys_short-requires : goal.keys_short-requires
 keys_short-requires c =
@@ -67,8 +65,7 @@ returns-then-keys_short c =
     c.grown_run-next.result ≡ grown Dictionary a.c (cond a.present 1 0) a.len a.stored a.joins = let a = c.args in
     laws.key-same a.c (cond a.present 1 0) a.len a.stored a.joins c.grown_run-next.ensures c.next_entries.ensures in
     let a = c.args in
-    c.refused-then-keys_short.ensures
-    ∙ laws.counted-short a.kind Dictionary a.c a.room (next) c.keys_past.ensures c.if-keys_past.false
+    laws.counted-short a.kind Dictionary a.c a.room (next) c.keys_past.ensures c.if-keys_past.false
     c.keys_short.ensures c.if-keys_short.true
 
 pub returns : goal.returns

@@ -17,8 +17,7 @@ use Rattle.step.proofs.counting.row_counted.Goals as goal
 pub returns-then-len-gt-MOST_BYTES : goal.returns-then-len-gt-MOST_BYTES
 returns-then-len-gt-MOST_BYTES c =
     let a = c.args in
-    c.refused.ensures
-    ∙ laws.long-past a.kind (rows_by a.nullable) a.c a.room 0 a.len true false (λ _. refl) refl (lt-ltb MOST_BYTES a.len c.if-len-gt-MOST_BYTES.true)
+    laws.long-past a.kind (rows_by a.nullable) a.c a.room 0 a.len true false (λ _. refl) refl (lt-ltb MOST_BYTES a.len c.if-len-gt-MOST_BYTES.true)
 
 pub grown_row-next-requires : goal.grown_row-next-requires
 grown_row-next-requires c =
@@ -38,8 +37,7 @@ pub returns-then-rows_past : goal.returns-then-rows_past
 returns-then-rows_past c =
     let next : let a = c.args in c.grown_row-next.result ≡ grown (rows_by a.nullable) a.c 0 a.len true false = let a = c.args in c.grown_row-next.ensures ∙ laws.row_same a.nullable a.c 0 a.len in
     let a = c.args in
-    c.refused-then-rows_past.ensures
-    ∙ laws.counted-limits a.kind (rows_by a.nullable) a.c a.room (next) c.rows_past.ensures c.if-rows_past.true
+    laws.counted-limits a.kind (rows_by a.nullable) a.c a.room (next) c.rows_past.ensures c.if-rows_past.true
 
 pub rows_short-requires : goal.rows_short-requires
 rows_short-requires c =
@@ -50,8 +48,7 @@ pub returns-then-rows_short : goal.returns-then-rows_short
 returns-then-rows_short c =
     let next : let a = c.args in c.grown_row-next.result ≡ grown (rows_by a.nullable) a.c 0 a.len true false = let a = c.args in c.grown_row-next.ensures ∙ laws.row_same a.nullable a.c 0 a.len in
     let a = c.args in
-    c.refused-then-rows_short.ensures
-    ∙ laws.counted-short a.kind (rows_by a.nullable) a.c a.room (next) c.rows_past.ensures c.if-rows_past.false
+    laws.counted-short a.kind (rows_by a.nullable) a.c a.room (next) c.rows_past.ensures c.if-rows_past.false
     c.rows_short.ensures c.if-rows_short.true
 
 pub returns : goal.returns

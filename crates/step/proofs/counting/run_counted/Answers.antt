@@ -1,5 +1,5 @@
 -- `step::run_counted` meets its contract: each return by the law of the tests that led there. Assumes nothing.
-use mathlib.Core.Path.{◌≡◌, refl, ◌∙◌}
+use mathlib.Core.Path.{◌≡◌, refl}
 use mathlib.Core.Bool.{cond}
 use Rattle.needs.specs.Tests.{runs_by}
 use Rattle.needs.proofs.Encodings.{runs-coded}
@@ -12,8 +12,7 @@ use Rattle.step.proofs.counting.run_counted.Goals as goal
 pub returns-then-too_long : goal.returns-then-too_long
 returns-then-too_long c =
     let a = c.args in
-    c.refused.ensures
-    ∙ laws.long-past a.kind (runs_by a.nullable) a.c a.room (cond a.present 1 0) a.len a.stored a.joins (λ _. c.requires.2)
+    laws.long-past a.kind (runs_by a.nullable) a.c a.room (cond a.present 1 0) a.len a.stored a.joins (λ _. c.requires.2)
     c.too_long.ensures c.if-too_long.true
 
 pub grown_run-next-requires : goal.grown_run-next-requires
@@ -40,8 +39,7 @@ returns-then-runs_past c =
     c.grown_run-next.result ≡ grown (runs_by a.nullable) a.c (cond a.present 1 0) a.len a.stored a.joins = let a = c.args in
     laws.run-same a.c (cond a.present 1 0) a.len a.stored a.joins c.grown_run-next.ensures a.nullable refl in
     let a = c.args in
-    c.refused-then-runs_past.ensures
-    ∙ laws.counted-limits a.kind (runs_by a.nullable) a.c a.room (next) c.runs_past.ensures c.if-runs_past.true
+    laws.counted-limits a.kind (runs_by a.nullable) a.c a.room (next) c.runs_past.ensures c.if-runs_past.true
 
 pub runs_short-requires : goal.runs_short-requires
 runs_short-requires c =
@@ -54,8 +52,7 @@ returns-then-runs_short c =
     c.grown_run-next.result ≡ grown (runs_by a.nullable) a.c (cond a.present 1 0) a.len a.stored a.joins = let a = c.args in
     laws.run-same a.c (cond a.present 1 0) a.len a.stored a.joins c.grown_run-next.ensures a.nullable refl in
     let a = c.args in
-    c.refused-then-runs_short.ensures
-    ∙ laws.counted-short a.kind (runs_by a.nullable) a.c a.room (next) c.runs_past.ensures c.if-runs_past.false
+    laws.counted-short a.kind (runs_by a.nullable) a.c a.room (next) c.runs_past.ensures c.if-runs_past.false
     c.runs_short.ensures c.if-runs_short.true
 
 pub returns : goal.returns

@@ -11,7 +11,7 @@ returns-then-is_interval c =
     let a = c.args in
     let all = laws.put-interval a.p a.v a.at a.out.now
     (sym c.is_interval.ensures ∙ c.if-is_interval.true)
-    (c.bits_of-bits.ensures ∙ ap (of_z w64) (to_z-of_z c.ranges.v))
+    (c.cast_unsigned-bits.ensures ∙ ap (of_z w64) (to_z-of_z c.ranges.v))
     (c.put_interval.ensures.value, c.put_interval.ensures.out_after) in
     record { value = all.0; out_after = all.1 }
 
@@ -21,6 +21,6 @@ returns c =
     let all = laws.put_other a.p a.v a.at a.out.now
     (sym c.is_interval.ensures ∙ c.if-is_interval.false)
     c.ranges.v
-    (c.bits_of-bits.ensures ∙ ap (of_z w64) (to_z-of_z c.ranges.v))
+    (c.cast_unsigned-bits.ensures ∙ ap (of_z w64) (to_z-of_z c.ranges.v))
     (c.put_number.ensures.value, c.put_number.ensures.out_after) in
     record { value = all.0; out_after = all.1 }

@@ -1,7 +1,0 @@
--- `DateKind::takes` meets its contract: the law of ranges at Date. Assumes nothing.
-use mir.Syntax.{w32}
-use Rattle.encode.proofs.ByKind.{takes-signed}
-use Rattle.encode.proofs.fixed.DateKind.takes.Goals as goal
-
-pub returns : goal.returns
-returns c = takes-signed w32 c.ranges.v c.mag_of.ensures

@@ -1,7 +1,0 @@
--- `item2` meets its contract: the two bytes read are those of the list. Assumes nothing.
-use native.Mathlib.Omega.{arith}
-use Rattle.plain.proofs.Cells.{item}
-use Rattle.plain.proofs.item2.Goals as goal
-
-pub returns : goal.returns
-returns c = let a = c.args in item 1 a.at a.s.now (omega arith)
