@@ -110,13 +110,16 @@ impl Primitive {
     pub fn width(self) -> usize
         ensures { Wide self result }
     {
-        match self.shape() {
-            Shape::Bool => BoolKind::WIDTH,
-            Shape::Low2 => I16Kind::WIDTH,
-            Shape::Low4 => I32Kind::WIDTH,
-            Shape::Low8 => I64Kind::WIDTH,
-            Shape::High4 => DateKind::WIDTH,
-            Shape::High8 => TimestampKind::WIDTH,
+        match self {
+            Primitive::Bool => BoolKind::WIDTH,
+            Primitive::I16 => I16Kind::WIDTH,
+            Primitive::I32 => I32Kind::WIDTH,
+            Primitive::I64 => I64Kind::WIDTH,
+            Primitive::Date => DateKind::WIDTH,
+            Primitive::Timestamp => TimestampKind::WIDTH,
+            Primitive::TimestampTz => TimestampTzKind::WIDTH,
+            Primitive::Interval => IntervalKind::WIDTH,
+            Primitive::F64 => F64Kind::WIDTH,
         }
     }
 
@@ -124,52 +127,64 @@ impl Primitive {
     pub fn default_value(self) -> i64
         ensures { Default self result }
     {
-        match self.shape() {
-            Shape::Bool => BoolKind::DEFAULT_VALUE,
-            Shape::Low2 => I16Kind::DEFAULT_VALUE,
-            Shape::Low4 => I32Kind::DEFAULT_VALUE,
-            Shape::Low8 => I64Kind::DEFAULT_VALUE,
-            Shape::High4 => DateKind::DEFAULT_VALUE,
-            Shape::High8 => TimestampKind::DEFAULT_VALUE,
+        match self {
+            Primitive::Bool => BoolKind::DEFAULT_VALUE,
+            Primitive::I16 => I16Kind::DEFAULT_VALUE,
+            Primitive::I32 => I32Kind::DEFAULT_VALUE,
+            Primitive::I64 => I64Kind::DEFAULT_VALUE,
+            Primitive::Date => DateKind::DEFAULT_VALUE,
+            Primitive::Timestamp => TimestampKind::DEFAULT_VALUE,
+            Primitive::TimestampTz => TimestampTzKind::DEFAULT_VALUE,
+            Primitive::Interval => IntervalKind::DEFAULT_VALUE,
+            Primitive::F64 => F64Kind::DEFAULT_VALUE,
         }
     }
 
     pub fn encode(self, v: i64) -> [u8; 8]
         ensures { Encodes self v result }
     {
-        match self.shape() {
-            Shape::Bool => BoolKind::encode(v),
-            Shape::Low2 => I16Kind::encode(v),
-            Shape::Low4 => I32Kind::encode(v),
-            Shape::Low8 => I64Kind::encode(v),
-            Shape::High4 => DateKind::encode(v),
-            Shape::High8 => TimestampKind::encode(v),
+        match self {
+            Primitive::Bool => BoolKind::encode(v),
+            Primitive::I16 => I16Kind::encode(v),
+            Primitive::I32 => I32Kind::encode(v),
+            Primitive::I64 => I64Kind::encode(v),
+            Primitive::Date => DateKind::encode(v),
+            Primitive::Timestamp => TimestampKind::encode(v),
+            Primitive::TimestampTz => TimestampTzKind::encode(v),
+            Primitive::Interval => IntervalKind::encode(v),
+            Primitive::F64 => F64Kind::encode(v),
         }
     }
 
     pub fn decode(self, item: [u8; 8]) -> i64
         ensures { Decodes self item result }
     {
-        match self.shape() {
-            Shape::Bool => BoolKind::decode(item),
-            Shape::Low2 => I16Kind::decode(item),
-            Shape::Low4 => I32Kind::decode(item),
-            Shape::Low8 => I64Kind::decode(item),
-            Shape::High4 => DateKind::decode(item),
-            Shape::High8 => TimestampKind::decode(item),
+        match self {
+            Primitive::Bool => BoolKind::decode(item),
+            Primitive::I16 => I16Kind::decode(item),
+            Primitive::I32 => I32Kind::decode(item),
+            Primitive::I64 => I64Kind::decode(item),
+            Primitive::Date => DateKind::decode(item),
+            Primitive::Timestamp => TimestampKind::decode(item),
+            Primitive::TimestampTz => TimestampTzKind::decode(item),
+            Primitive::Interval => IntervalKind::decode(item),
+            Primitive::F64 => F64Kind::decode(item),
         }
     }
 
     pub fn takes(self, v: i64) -> bool
         ensures { Takes self v result }
     {
-        match self.shape() {
-            Shape::Bool => BoolKind::takes(v),
-            Shape::Low2 => I16Kind::takes(v),
-            Shape::Low4 => I32Kind::takes(v),
-            Shape::Low8 => I64Kind::takes(v),
-            Shape::High4 => DateKind::takes(v),
-            Shape::High8 => TimestampKind::takes(v),
+        match self {
+            Primitive::Bool => BoolKind::takes(v),
+            Primitive::I16 => I16Kind::takes(v),
+            Primitive::I32 => I32Kind::takes(v),
+            Primitive::I64 => I64Kind::takes(v),
+            Primitive::Date => DateKind::takes(v),
+            Primitive::Timestamp => TimestampKind::takes(v),
+            Primitive::TimestampTz => TimestampTzKind::takes(v),
+            Primitive::Interval => IntervalKind::takes(v),
+            Primitive::F64 => F64Kind::takes(v),
         }
     }
 }

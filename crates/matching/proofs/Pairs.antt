@@ -8,8 +8,8 @@ use mathlib.Core.List.{List, [], ◌∷◌}
 use borrow.Author.Tests.{eqb-true, eqb-false, eq-eqb, ne_eqb}
 use lib.Dec.{eqb}
 use lib.IntN.{ℤ}
-use lib.ListN.{length, take, drop, length-drop}
-use lib.Seq.{length-take-le}
+use lib.ListN.{length, take, drop, get_or, length-drop}
+use lib.Seq.{length-take-le, get_or-take, get_or-drop}
 use mir.Syntax.{w64}
 use mir.Val.{SFits, of_z}
 use Rattle.limits.specs.Limits.{MOST_ITEMS}
@@ -113,6 +113,12 @@ module _ (a : List ℕ) (from len : ℕ) where
   pub part_length : from + len ≤ length a → length (take len (drop from a)) ≡ len
   part_length h = length-take-le len (drop from a) (simp length-drop (omega arith))
 
+  pub part-byte : (i : ℕ) → i < len → get_or (take len (drop from a)) i 0 ≡ get_or a (from + i) 0
+  part-byte i h = rw (get_or-take, get_or-drop)
+
+  pub first-byte : 0 < len → get_or (take len (drop from a)) 0 0 ≡ get_or a from 0
+  first-byte h = let e : from + 0 ≡ from = omega arith in part-byte 0 h ∙ ap (λ (k : ℕ). get_or a k 0) e
+
 pub lengths-differ : (xs ys : List ℕ) → (length xs ≡ length ys → ⊥) → false ≡ same_bytes xs ys
 unfolding same_bytes
 lengths-differ [] [] h = absurd (h refl)
@@ -125,6 +131,13 @@ lengths-differ (x ∷ xs) (y ∷ ys) h =
     by : (b : Bool) → eqb x y ≡ b → false ≡ same_bytes xs ys → false ≡ (eqb x y && same_bytes xs ys)
     by true e r = rw e r
     by false e r = rw e refl
+
+-- the first bytes differ
+pub firsts-differ : (xs ys : List ℕ) → 0 < length xs → 0 < length ys → (get_or xs 0 0 ≡ get_or ys 0 0 → ⊥) → false ≡ same_bytes xs ys
+unfolding same_bytes
+firsts-differ [] ys h l d = absurd (omega (arith, h))
+firsts-differ (x ∷ xs) [] h l d = absurd (omega (arith, l))
+firsts-differ (x ∷ xs) (y ∷ ys) h l d = rw (ne_eqb x y d) refl
 
 -- as the library compares slices
 pointwise-same : (xs ys : List ℕ) → pointwise eqb xs ys ≡ same_bytes xs ys

@@ -83,6 +83,10 @@ pub fn same_part(a: &[u8], from: usize, len: usize, b: &[u8], at: usize, n: usiz
     if len != n {
         return false;
     }
+    // Most parts that are held against each other differ in their first byte.
+    if 0 < n && a[from] != b[at] {
+        return false;
+    }
     a[from..from + n] == b[at..at + n]
 }
 

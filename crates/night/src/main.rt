@@ -83,7 +83,10 @@ fn compare_all(
     let mut tally = Tally::default();
     for _ in 0..usize::MAX {
         let mut room = night_by::room();
-        let line = night_by::read_line(rt, &mut room)?;
+        let line = match night_by::read_line(rt, &mut room) {
+            Ok(line) => line,
+            Err(broken) => return Err(broken.error),
+        };
         if 0 < line.len {
             let differs = compare_line(rt, &room[..line.len], file, one, other);
             tally = counted(tally, differs);

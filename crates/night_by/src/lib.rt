@@ -12,7 +12,7 @@ ghost use Rattle.night_by.specs.Night.{file_verdict, Directory, column_verdict, 
 
 use descriptor::Descriptor;
 use limits::refusal;
-pub use lines::{Line, is_sheet, read_line, room};
+pub use lines::{Broken, Line, is_sheet, read_line, room};
 use night_rows::Verdict;
 
 // ---- a file

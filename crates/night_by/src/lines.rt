@@ -1,5 +1,5 @@
 // The list of names on standard input, line by line, and what a line names.
-ghost use Rattle.std.specs.Prelude.{IfOk, ◌≡◌, true, ◌≤◌, length};
+ghost use Rattle.std.specs.Prelude.{IfErr, IfOk, ◌≡◌, true, ◌≤◌, length};
 ghost use Rattle.io.specs.Counts.{IsPrefixLen};
 
 use std::io;
@@ -14,6 +14,13 @@ const MOST: usize = 4102;
 pub struct Line {
     pub len: usize,
     pub more: bool,
+}
+
+// Why the list can't be read on, and how many bytes of the line that was begun are in the room.
+#[derive(Clone, Copy)]
+pub struct Broken {
+    pub len: usize,
+    pub error: Error,
 }
 
 pub fn room() -> [u8; MOST]
@@ -42,19 +49,24 @@ fn keep(room: &mut [u8], len: usize, b: u8) -> usize
     len + 1
 }
 
-// Reads up to the end of a line. Bytes that the room doesn't hold are passed over. An error is why the list can't be read on.
-pub fn read_line(rt: &HostRuntime, room: &mut [u8]) -> io::Result<Line>
-    ensures { IfOk result (λ line. IsPrefixLen line.len room.new) }
+// Reads up to the end of a line. Bytes that the room doesn't hold are passed over.
+pub fn read_line(rt: &HostRuntime, room: &mut [u8]) -> Result<Line, Broken>
+    ensures line { IfOk result (λ line. IsPrefixLen line.len room.new) }
+    ensures unfinished { IfErr result (λ broken. IsPrefixLen broken.len room.new) }
 {
     let mut len = 0;
     for _ in 0..usize::MAX {
-        match next_byte(rt)? {
-            None => return Ok(Line { len, more: false }),
-            Some(b'\n') => return Ok(Line { len, more: true }),
-            Some(b) => len = keep(room, len, b),
+        match next_byte(rt) {
+            Ok(None) => return Ok(Line { len, more: false }),
+            Ok(Some(b'\n')) => return Ok(Line { len, more: true }),
+            Ok(Some(b)) => len = keep(room, len, b),
+            Err(error) => return Err(Broken { len, error }),
         }
     }
-    Err(Error::from(ErrorKind::FileTooLarge))
+    Err(Broken {
+        len,
+        error: Error::from(ErrorKind::FileTooLarge),
+    })
 }
 
 // Whether a line names a sheet file: `sheet` and a space before the name.

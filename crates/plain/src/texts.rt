@@ -17,13 +17,6 @@ struct Tables {
 }
 
 impl Tables {
-    fn new() -> Tables {
-        Tables {
-            classes: utf8::tables::CLASSES,
-            moves: utf8::tables::MOVES,
-        }
-    }
-
     // Whether the `len` bytes from `from` on are text.
     fn are_text(&self, s: &[u8], from: usize, len: usize) -> bool
         requires { from + len ≤ length s.now }
@@ -67,7 +60,11 @@ pub fn chars_are_text(w: usize, n: usize, s: &[u8]) -> bool
     if utf8::is_ascii(s, 0, s.len()) {
         return true;
     }
-    chars_one_by_one(&Tables::new(), w, n, s)
+    let tables = Tables {
+        classes: utf8::tables::CLASSES,
+        moves: utf8::tables::MOVES,
+    };
+    chars_one_by_one(&tables, w, n, s)
 }
 
 // ---- string, whole
@@ -107,5 +104,9 @@ pub fn strings_are_text(n: usize, s: &[u8]) -> bool
     if utf8::is_ascii(s, from, s.len() - from) {
         return true;
     }
-    strings_one_by_one(&Tables::new(), n, s)
+    let tables = Tables {
+        classes: utf8::tables::CLASSES,
+        moves: utf8::tables::MOVES,
+    };
+    strings_one_by_one(&tables, n, s)
 }

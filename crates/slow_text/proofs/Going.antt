@@ -3,8 +3,8 @@ use Prim.Native.Nat.{ℕ, zero, suc, ◌+◌, ◌-◌, ◌<◌, ◌≤◌}
 use native.Mathlib.Nat.{add-zero}
 use native.Mathlib.Omega.{arith}
 use mathlib.Core.Bool.{true, false}
-use mathlib.Core.List.{List, []}
-use mathlib.Core.Path.{◌≡◌, refl, ap, ◌∙◌}
+use mathlib.Core.List.{List, [], ◌∷◌}
+use mathlib.Core.Path.{◌≡◌, refl, sym, ap, ◌∙◌}
 use lib.Dec.{eqb}
 use lib.ListN.{length, get_or, take, drop}
 use lib.Seq.{drop-cons}
@@ -72,13 +72,21 @@ module _ {s : List ℕ} {from n : ℕ} {d : Option Record} {i : ℕ} (w : Going 
         sound = omega arith;
       }
 
-  module _ (h : n ≤ i) where
-    end : whole (due_of d) ≡ is_text (take n (drop from s))
-    unfolding after is_text
-    end = let z : n - i ≡ 0 = omega arith in ap whole (rw z at w.rest)
+-- what nothing can mend stays so, whatever is left
+after-never : (s : List ℕ) → after never s ≡ never
+unfolding after
+after-never [] = refl
+after-never (b ∷ s) = after-never s
 
-    pub going_never : d ≡ None → false ≡ is_text (take n (drop from s))
-    going_never e = rw e at end
+module _ {s : List ℕ} {from n : ℕ} {d : Option Record} {i : ℕ} (w : Going s from n d i) where
+  pub going_never : d ≡ None → false ≡ is_text (take n (drop from s))
+  unfolding is_text
+  going_never e =
+      let never-left : after never (take (n - i) (drop (from + i) s)) ≡ after (due []) (take n (drop from s)) = rw e at w.rest in
+      sym (ap whole (after-never (take (n - i) (drop (from + i) s)))) ∙ ap whole never-left
 
-    pub going_end : {x : Record} → d ≡ Some x → eqb x.left 0 ≡ is_text (take n (drop from s))
-    going_end {x} e = whole_of x.left x.low x.high (rw e at w.known) ∙ (rw e at end)
+-- the end of the walk
+module _ {s : List ℕ} {from n : ℕ} {x : Record} {i : ℕ} (w : Going s from n (Some x) i) where
+  pub going_end : n ≤ i → eqb x.left 0 ≡ is_text (take n (drop from s))
+  unfolding after is_text
+  going_end h = let z : n - i ≡ 0 = omega arith in whole_of x.left x.low x.high w.known ∙ ap whole (rw z at w.rest)

@@ -1,7 +1,7 @@
 // Text looked at byte by byte, by the table of the Unicode Standard: the second engine's own way, which shares no function with the first.
 #![tactic(auto)]
 
-ghost use Rattle.std.specs.Prelude.{◌≡◌, ◌+◌, ◌≤◌, length, take, drop};
+ghost use Rattle.std.specs.Prelude.{◌≡◌, ◌+◌, ◌≤◌, length, take, drop, Some};
 ghost use Rattle.utf8.specs.Utf8.{forms, start_in, next as next_due, is_text};
 ghost use Rattle.slow_text.specs.Due.{due_by, due_of, IsFew};
 
@@ -59,13 +59,10 @@ fn begun(b: u8) -> Option<Due>
 }
 
 // One byte more.
-fn next(before: Option<Due>, b: u8) -> Option<Due>
-    requires { IsFew before }
-    ensures { (due_of result ≡ next_due (due_of before) b) × IsFew result }
+fn next(d: Due, b: u8) -> Option<Due>
+    requires { d.left ≤ 3 }
+    ensures { (due_of result ≡ next_due (due_of (Some d)) b) × IsFew result }
 {
-    let Some(d) = before else {
-        return None;
-    };
     if d.left == 0 {
         return begun(b);
     }
@@ -83,12 +80,16 @@ pub fn is_text(s: &[u8], from: usize, n: usize) -> bool
     requires { from + n ≤ length s.now }
     ensures { result ≡ is_text (take n (drop from s.now)) }
 {
-    let mut due = asks(0, 0, 0);
-    for i in 0..n {
-        due = next(due, s[from + i]);
-    }
-    let Some(d) = due else {
-        return false;
+    let mut d = Due {
+        left: 0,
+        low: 0,
+        high: 0,
     };
+    for i in 0..n {
+        let Some(e) = next(d, s[from + i]) else {
+            return false;
+        };
+        d = e;
+    }
     d.left == 0
 }

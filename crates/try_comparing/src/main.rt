@@ -97,11 +97,11 @@ fn compare(input: &mut Input, turned: bool, first: &[u8], second: &[u8]) {
     };
     let n = input.number();
     let m = input.number();
-    let mut firsts = [0xaaaa_aaaausize; 2100];
-    let mut lasts = [0xaaaa_aaaausize; 2100];
-    if firsts.len() < n || lasts.len() < m {
+    if 2100 < n || 2100 < m {
         return;
     }
+    let mut firsts = [0xaaaa_aaaausize; 2100];
+    let mut lasts = [0xaaaa_aaaausize; 2100];
     if turned {
         compare_into(other, one, &mut firsts[..n], &mut lasts[..m]);
     } else {

@@ -90,12 +90,12 @@ fn salvage(input: &mut Input, block: &[u8]) {
     let n = input.number();
     let m = input.number();
     let len = input.number();
+    if 100 < n || 100 < m || 700000 < len {
+        return;
+    }
     let mut firsts = [0xaaaa_aaaausize; 100];
     let mut lasts = [0xaaaa_aaaausize; 100];
     let mut out = out_room();
-    if firsts.len() < n || lasts.len() < m || out.len() < len {
-        return;
-    }
     salvage_into(d, block, &mut firsts[..n], &mut lasts[..m], &mut out[..len]);
 }
 
